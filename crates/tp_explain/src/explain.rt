@@ -3,30 +3,26 @@
 use crate::heads::put_head;
 use crate::journals::put_wrong;
 use crate::plans::{put_exhausted, put_spent, put_unreachable};
-use std::alloc::{AllocError, Global};
+use std::alloc::AllocError;
 use tp_cli_files::Files;
 use tp_explain_faults::{Call, call_of, put_fault_line};
 use tp_explain_text::Page;
 
 /// Puts what an answer means.
 fn put_ending<N: Files>(
-    alloc: Global,
     page: &mut Page,
     files: &mut N,
     call: &Call<'_>,
     answer: &str,
 ) -> Result<(), AllocError> {
-    let (word, rest) = match answer.split_once(' ') {
-        Some((word, rest)) => (word, rest),
-        None => (answer, ""),
-    };
+    let (word, rest) = answer.split_once(' ').unwrap_or((answer, ""));
     match word.as_bytes() {
         b"spent" => put_spent(page, call, rest),
         b"exhausted" => put_exhausted(page, call),
-        b"unreachable" => return put_unreachable(alloc, page, files, call),
+        b"unreachable" => return put_unreachable(page, files, call),
         b"wrong" => {
             if let Ok(number) = rest.parse::<u64>() {
-                return put_wrong(alloc, page, files, call, number);
+                return put_wrong(page, files, call, number);
             }
         }
         _ => {}
@@ -40,15 +36,9 @@ fn put_ending<N: Files>(
 ///
 /// The cost is that of grounding the task and of its reach for `unreachable`; for `wrong`, of the
 /// run.
-pub fn explain_ending<N: Files>(
-    alloc: Global,
-    words: &[String],
-    files: &mut N,
-    answer: &str,
-    page: &mut Page,
-) {
+pub fn explain_ending<N: Files>(words: &[String], files: &mut N, answer: &str, page: &mut Page) {
     let call = call_of(words);
-    let _ = put_ending(alloc, page, files, &call, answer);
+    let _ = put_ending(page, files, &call, answer);
 }
 
 /// Puts what explains a fault line, which is given without its end; nothing for a fault of memory
@@ -60,7 +50,6 @@ pub fn explain_ending<N: Files>(
 /// a task, its objects times its parameters; for a journal, its bytes up to the line at fault, and
 /// for its head the network of the plan.
 pub fn explain_fault<N: Files>(
-    alloc: Global,
     words: &[String],
     files: &mut N,
     input: &[u8],
@@ -69,8 +58,8 @@ pub fn explain_fault<N: Files>(
 ) {
     if line == "fault journal 5 head" {
         let call = call_of(words);
-        let _ = put_head(alloc, page, files, &call);
+        let _ = put_head(page, files, &call);
     } else {
-        put_fault_line(alloc, words, files, input, line, page);
+        put_fault_line(words, files, input, line, page);
     }
 }

@@ -1,7 +1,7 @@
 //! The conjunct of a goal that is out of reach.
 
-use std::alloc::AllocError;
-use tp_explain_text::{Page, Source, Tree, end_headline, head_word, items_of, place_of, put_place};
+use std::alloc::{AllocError, Global};
+use tp_explain_text::{At, Page, Source, Tree, put, put_mark};
 use tp_task::{AtomId, Cond, Task};
 use tp_task_reachability::met;
 
@@ -28,13 +28,11 @@ fn first_unmet(conds: &[Cond], atoms: &[bool]) -> Option<usize> {
 /// The part of a written conjunction, or of what a quantifier is over, that a part of the condition
 /// comes of.
 fn part_of<'t>(tree: &'t Tree, number: usize) -> Option<&'t Tree> {
-    let items = items_of(tree);
-    let head = head_word(items)?;
-    if head.eq_ignore_ascii_case("and") {
-        return items.get(number.saturating_add(1));
+    if tree.head().eq_ignore_ascii_case("and") {
+        return tree.rest().get(number);
     }
-    if head.eq_ignore_ascii_case("forall") {
-        return items.get(2);
+    if tree.head().eq_ignore_ascii_case("forall") {
+        return tree.items().get(2);
     }
     None
 }
@@ -57,21 +55,18 @@ pub fn unmet_goal<'t, 'c>(tree: &'t Tree, goal: &'c Cond, atoms: &[bool]) -> Unm
     unmet
 }
 
-/// Puts a list as it is written, in small letters, with one space between its parts.
-fn put_written(page: &mut Page, tree: &Tree) {
-    match tree {
-        Tree::Word(token) => page.put_lower(token.text.as_str()),
-        Tree::List { items, .. } => {
-            page.put("(");
-            let mut is_first = true;
-            for item in items {
-                page.put(if is_first { "" } else { " " });
-                is_first = false;
-                put_written(page, item);
-            }
-            page.put(")");
-        }
+/// A list as it is written, in small letters, with one space between its parts.
+fn written(alloc: Global, tree: &Tree, text: &mut String) -> Result<(), AllocError> {
+    if !tree.is_list() {
+        return text.push_str(tree.word().to_ascii_lowercase(alloc)?.as_str());
     }
+    let mut before = "(";
+    for item in tree.items() {
+        text.push_str(before)?;
+        before = " ";
+        written(alloc, item, text)?;
+    }
+    text.push_str(if tree.items().is_empty() { "()" } else { ")" })
 }
 
 /// Puts that a conjunct of the goal is out of reach.
@@ -81,19 +76,15 @@ pub fn put_unmet(
     task: &Task,
     unmet: &Unmet<'_, '_>,
 ) -> Result<(), AllocError> {
-    let at = place_of(unmet.tree);
-    put_place(page, source, at);
-    page.put("no plan: the goal is out of reach, even if nothing is ever deleted");
-    end_headline(page, source, at);
-    page.put("note: it wants ");
+    let at = unmet.tree.place();
+    put!(page; "{}no plan: the goal is out of reach, even if nothing is ever deleted\n",
+        At(source, at));
+    put_mark(page, source, at);
+    let mut text = String::new(page.alloc());
     match unmet.cond {
-        Cond::Atom(atom) => {
-            let text = task.atom_text(AtomId(*atom))?;
-            page.put(text.as_str());
-        }
-        _ => put_written(page, unmet.tree),
+        Cond::Atom(atom) => text.push_str(task.atom_text(AtomId(*atom))?.as_str())?,
+        _ => written(page.alloc(), unmet.tree, &mut text)?,
     }
-    page.put(", which nothing brings about");
-    page.end_line();
+    put!(page; "note: it wants {text}, which nothing brings about\n");
     Ok(())
 }

@@ -1,21 +1,18 @@
 //! The head of a journal that is not that of the network of its call.
 
 use crate::executives::plan_network;
-use crate::taken::{LONGEST, Taken, next_of, put_line};
+use crate::taken::{LONGEST, Taken, next_of, shown};
 use std::alloc::{AllocError, Global};
 use tp_bounds::{BoundId, PlanNet};
 use tp_cli_files::Files;
 use tp_device::Sink;
 use tp_explain_faults::Call;
-use tp_explain_text::{Page, put_line_place, put_mark_of_line};
+use tp_explain_text::{Page, put, put_mark_of_line};
 use tp_script::{LineBuffers, Lines, write_bound, write_numbered, write_two_numbers};
 
 /// Puts the headline of a line of a head, and the line.
 fn put_headline(page: &mut Page, call: &Call<'_>, number: u64, line: Option<&[u8]>, what: &str) {
-    put_line_place(page, call.log, number, 1);
-    page.put("error: ");
-    page.put(what);
-    page.end_line();
+    put!(page; "{}:{number}:1: error: {what}\n", call.log);
     if let Some(line) = line {
         put_mark_of_line(page, line, 0);
     }
@@ -23,23 +20,20 @@ fn put_headline(page: &mut Page, call: &Call<'_>, number: u64, line: Option<&[u8
 
 /// Puts that a journal is of a plan's run, and no plan is named.
 fn put_no_plan<N: Files>(
-    alloc: Global,
     page: &mut Page,
     files: &mut N,
     call: &Call<'_>,
 ) -> Result<(), AllocError> {
-    let third = line_at(alloc, files, call, 3)?;
+    let third = line_at(page.alloc(), files, call, 3)?;
     let line = third.as_ref().map(|bytes| bytes.as_slice());
     let is_own = line.map_or(false, |bytes| bytes.starts_with(b"own"));
     if is_own {
         let what = "the network of this journal came from a plan, and no plan is named";
         put_headline(page, call, 3, line, what);
-        page.put("help: name its domain, problem and plan behind the journal");
-        page.end_line();
+        put!(page; "help: name its domain, problem and plan behind the journal\n");
     } else {
         put_headline(page, call, 2, None, "there is no network of this head");
-        page.put("note: it has at most 1024 events, a horizon and lags of at most 1000000000");
-        page.end_line();
+        put!(page; "note: it has at most 1024 events, a horizon and lags of at most 1000000000\n");
     }
     Ok(())
 }
@@ -102,23 +96,19 @@ fn put_other(page: &mut Page, call: &Call<'_>, number: u64, line: Option<&[u8]>,
     let what = "the head is not that of the network of this plan";
     put_headline(page, call, number, line, what);
     if !wanted.is_empty() {
-        page.put("note: the plan's has `");
-        put_line(page, wanted);
-        page.put("` there");
-        page.end_line();
+        put!(page; "note: the plan's has `{}` there\n", shown(wanted));
     }
-    page.put("help: name the run's own files, with its `--scale` and `--horizon`");
-    page.end_line();
+    page.put("help: name the run's own files, with its `--scale` and `--horizon`\n");
 }
 
 /// Puts the first line of a journal that is another than in the head of a network.
 fn put_first_other<N: Files>(
-    alloc: Global,
     page: &mut Page,
     files: &mut N,
     call: &Call<'_>,
     network: &PlanNet,
 ) -> Result<(), AllocError> {
+    let alloc = page.alloc();
     let Ok(mut source) = files.open(call.log) else {
         return Ok(());
     };
@@ -142,16 +132,15 @@ fn put_first_other<N: Files>(
 
 /// Puts why the head of the journal of a call is not that of its network.
 pub fn put_head<N: Files>(
-    alloc: Global,
     page: &mut Page,
     files: &mut N,
     call: &Call<'_>,
 ) -> Result<(), AllocError> {
     if call.domain.is_empty() {
-        return put_no_plan(alloc, page, files, call);
+        return put_no_plan(page, files, call);
     }
-    match plan_network(alloc, files, call) {
-        Some(network) => put_first_other(alloc, page, files, call, &network),
+    match plan_network(page.alloc(), files, call) {
+        Some(network) => put_first_other(page, files, call, &network),
         None => Ok(()),
     }
 }

@@ -1,14 +1,14 @@
 //! The answer that is allowed on a line of a journal.
 
 use crate::executives::{bare_executive, plan_executive, plan_network};
-use crate::taken::{LONGEST, Taken, next_of, put_line};
+use crate::taken::{LONGEST, Taken, next_of, shown};
 use std::alloc::{AllocError, Global};
 use tp_cli_audit::head_in;
 use tp_cli_files::Files;
 use tp_device::{Source as Reader, push_all};
 use tp_exec_machine::{Executive, perform};
 use tp_explain_faults::Call;
-use tp_explain_text::{Page, put_line_place, put_mark_of_line};
+use tp_explain_text::{Page, put, put_mark_of_line};
 use tp_journal::JournalHead;
 use tp_net::Net;
 use tp_repair::RepairNet;
@@ -88,16 +88,10 @@ fn take_pair<N: Net, S: Reader + Drop>(
 
 /// Puts that an answer is not allowed, and one that is.
 fn put_pair(page: &mut Page, call: &Call<'_>, number: u64, pair: &Pair) {
-    put_line_place(page, call.log, number, 1);
-    page.put("wrong: this answer to `");
-    put_line(page, pair.command.as_slice());
-    page.put("` is not allowed");
-    page.end_line();
+    let command = shown(pair.command.as_slice());
+    put!(page; "{}:{number}:1: wrong: this answer to `{command}` is not allowed\n", call.log);
     put_mark_of_line(page, pair.answer.as_slice(), 0);
-    page.put("note: `");
-    put_line(page, pair.allowed.as_slice());
-    page.put("` is");
-    page.end_line();
+    put!(page; "note: `{}` is\n", shown(pair.allowed.as_slice()));
 }
 
 /// The executive of the journal of a call: that of its head, or of the plan's network.
@@ -116,12 +110,12 @@ fn executive_of<N: Files>(
 
 /// Puts why the answer on a line of the journal of a call is wrong.
 pub fn put_wrong<N: Files>(
-    alloc: Global,
     page: &mut Page,
     files: &mut N,
     call: &Call<'_>,
     number: u64,
 ) -> Result<(), AllocError> {
+    let alloc = page.alloc();
     let Ok(head) = head_in(alloc, files, call.log) else {
         return Ok(());
     };

@@ -163,7 +163,7 @@ impl<'w> Narrator<'w> {
             return Ok(());
         };
         match texts_of(self.alloc, files, words) {
-            Some(texts) => texts.explain(self.alloc, page, words, line),
+            Some(texts) => texts.explain(page, words, line),
             None => Ok(()),
         }
     }
@@ -196,10 +196,10 @@ impl<'w> Narrator<'w> {
         match self.topic {
             Topic::Run(words) => self.tell_run(status, files, words, page),
             Topic::Net(words) if status == 0 && words.horizon <= MOST_HORIZON => {
-                tell_net(self.alloc, page, files, words)
+                tell_net(page, files, words)
             }
             Topic::Part(words, owners, agent) if status == 0 && words.horizon <= MOST_HORIZON => {
-                tell_part(self.alloc, page, files, words, owners, agent);
+                tell_part(page, files, words, owners, agent);
                 Ok(())
             }
             Topic::Net(words) | Topic::Part(words, _, _) | Topic::Verdict(words) => {

@@ -10,10 +10,8 @@ use tp_bounds::{Bound, Limits, PlanNet};
 use tp_cli_files::{Files, open_text};
 use tp_cli_inputs::{NamedPlan, PlanWords, plan_in, verdict_of};
 use tp_deorder::deorder;
-use tp_explain_story::{
-    Names, RunPlan, Story, Tree, Watch, put_named_event, read_tree, tell_network,
-};
-use tp_explain_text::Page;
+use tp_explain_story::{Names, Numbered, RunPlan, Story, Texts, Watch, tell_network};
+use tp_explain_text::{Page, Tree, put, read_tree};
 use tp_happen::Plan;
 use tp_task::Task;
 use tp_text::Scale;
@@ -41,7 +39,11 @@ fn network_for(alloc: Global, task: &Task, plan: Plan, horizon: u32) -> Option<P
 }
 
 /// The network of the plan that the words name.
-fn network_in<N: Files>(alloc: Global, files: &mut N, words: PlanWords<'_>) -> Option<PlanNet>
+pub(crate) fn network_in<N: Files>(
+    alloc: Global,
+    files: &mut N,
+    words: PlanWords<'_>,
+) -> Option<PlanNet>
     requires { words.horizon ≤ 1000000000 }
 {
     match plan_in(alloc, files, words) {
@@ -97,7 +99,6 @@ pub(crate) fn begin_run<N: Files>(
 
 /// Puts a line for each bound of the network of the plan of these trees.
 fn tell_trees<'a>(
-    alloc: Global,
     page: &mut Page,
     domain: &'a Tree,
     problem: &'a Tree,
@@ -105,82 +106,66 @@ fn tell_trees<'a>(
     scale: Scale,
     network: &PlanNet,
 ) -> Result<(), AllocError> {
-    let story = Story::new(alloc, domain, problem, plan, scale)?;
+    let texts = Texts::unnamed(scale);
+    let story = Story::new(page.alloc(), domain, problem, plan, texts)?;
     let names = Names::Texts(network.events.as_slice());
     tell_network(page, names, &story, network.bounds.as_slice())
 }
 
 /// Puts a line for each bound of the network of texts in lower case.
 fn tell_bounds(
-    alloc: Global,
     page: &mut Page,
     texts: PlanTexts,
     network: &PlanNet,
     scale: Scale,
 ) -> Result<(), AllocError> {
     let (domain, problem, plan) = texts.into_parts();
-    let Some(domain) = read_tree(alloc, domain.as_str())? else {
-        return Ok(());
-    };
-    let Some(problem) = read_tree(alloc, problem.as_str())? else {
-        return Ok(());
-    };
-    tell_trees(
-        alloc,
-        page,
-        &domain,
-        &problem,
-        plan.as_str(),
-        scale,
-        network,
-    )
+    let domain = read_tree(page.alloc(), domain.as_str());
+    let problem = read_tree(page.alloc(), problem.as_str());
+    match (&domain, &problem) {
+        (Ok(domain), Ok(problem)) => {
+            tell_trees(page, domain, problem, plan.as_str(), scale, network)
+        }
+        _ => Ok(()),
+    }
 }
 
 /// Puts a line for each bound of the network of the plan that the words name.
 pub(crate) fn tell_net<N: Files>(
-    alloc: Global,
     page: &mut Page,
     files: &mut N,
     words: PlanWords<'_>,
 ) -> Result<(), AllocError>
     requires { words.horizon ≤ 1000000000 }
 {
-    let Some(network) = network_in(alloc, files, words) else {
+    let Some(network) = network_in(page.alloc(), files, words) else {
         return Ok(());
     };
-    match texts_of(alloc, files, words) {
+    match texts_of(page.alloc(), files, words) {
         Some(texts) => {
-            let texts = lowered(alloc, &texts)?;
-            tell_bounds(alloc, page, texts, &network, words.scale)
+            let texts = lowered(page.alloc(), &texts)?;
+            tell_bounds(page, texts, &network, words.scale)
         }
         None => Ok(()),
     }
 }
 
-/// Puts a line for an event of an agent's part, by its number there: which event of the plan's
-/// network it is.
-fn put_own_event(page: &mut Page, names: Names<'_>, place: u16, event: usize) {
-    page.put("note: event ");
-    page.put_number(u64::from(place));
-    page.put(" is ");
-    put_named_event(page, names, u16::try_from(event).unwrap_or(u16::MAX), "");
-    page.end_line();
-}
-
-/// Puts a line for each event of an agent.
+/// Puts a line for each event of an agent, by its number in the agent's part: which event of the
+/// plan's network it is.
 fn put_own_events(page: &mut Page, names: Names<'_>, owners: &[u16], agent: u32) {
     let mut place = 0u16;
     for (event, owner) in owners.iter().enumerate() {
         if u32::from(*owner) == agent {
-            put_own_event(page, names, place, event);
+            let event = u16::try_from(event).unwrap_or(u16::MAX);
+            put!(page; "note: event {place} is {}\n", Numbered(names, event, ""));
             place = place.saturating_add(1);
         }
     }
 }
 
 /// Puts a line for each event of an agent, as the text of a file of agents tells.
-fn tell_owned(alloc: Global, page: &mut Page, network: &PlanNet, text: &str, agent: u32) {
-    if let Ok(owners) = read_owners(alloc, text) {
+fn tell_owned(page: &mut Page, network: &PlanNet, text: &str, agent: u32) {
+    if let Ok(owners) = read_owners(page.alloc(), text) {
         let names = Names::Texts(network.events.as_slice());
         put_own_events(page, names, owners.as_slice(), agent);
     }
@@ -188,7 +173,6 @@ fn tell_owned(alloc: Global, page: &mut Page, network: &PlanNet, text: &str, age
 
 /// Puts a line for each event of an agent's part of the plan that the words name.
 pub(crate) fn tell_part<N: Files>(
-    alloc: Global,
     page: &mut Page,
     files: &mut N,
     words: PlanWords<'_>,
@@ -197,9 +181,9 @@ pub(crate) fn tell_part<N: Files>(
 )
     requires { words.horizon ≤ 1000000000 }
 {
-    if let Some(network) = network_in(alloc, files, words) {
-        if let Ok(text) = open_text(alloc, files, owners) {
-            tell_owned(alloc, page, &network, text.as_str(), agent);
+    if let Some(network) = network_in(page.alloc(), files, words) {
+        if let Ok(text) = open_text(page.alloc(), files, owners) {
+            tell_owned(page, &network, text.as_str(), agent);
         }
     }
 }

@@ -1,69 +1,51 @@
 //! The answers of the searches for a plan.
 
+use crate::executives::plan_words;
 use crate::goals::{put_unmet, unmet_goal};
 use std::alloc::{AllocError, Global};
 use tp_bounds::Limits;
 use tp_cli_files::Files;
-use tp_cli_inputs::{PlanWords, domain_in, problem_in};
+use tp_cli_inputs::{domain_in, problem_in};
 use tp_explain_faults::{Call, ReadText, read_text, text_of};
 use tp_explain_syntax::section_of;
-use tp_explain_text::{Page, put_file, put_moment};
+use tp_explain_text::{Moment, Page, put};
 use tp_ground::ground_reached;
 use tp_task::Task;
 use tp_task_reachability::reach;
 
 fn put_horizon(page: &mut Page, call: &Call<'_>) {
-    page.put("note: each step ends by the horizon, ");
-    put_moment(page, call.scale.ticks(), u64::from(call.horizon));
-    page.end_line();
+    let moment = Moment(call.scale.ticks(), u64::from(call.horizon));
+    put!(page; "note: each step ends by the horizon, {moment}\n");
 }
 
 /// Puts that the budget of a search is spent.
 pub fn put_spent(page: &mut Page, call: &Call<'_>, count: &str) {
-    put_file(page, call.problem);
-    page.put("no plan: ");
-    page.put(count);
-    page.put(if count == "1" {
-        " node was"
+    let nodes = if count == "1" {
+        "node was"
     } else {
-        " nodes were"
-    });
-    page.put(" expanded, as many as the budget allows");
-    page.end_line();
+        "nodes were"
+    };
+    put!(page; "{}: no plan: {count} {nodes} expanded, as many as the budget allows\n",
+        call.problem);
     put_horizon(page, call);
-    page.put("help: `--budget B`, at most ");
     page.put(if call.command == "solve" {
-        "1000000000"
+        "help: `--budget B`, at most 1000000000\n"
     } else {
-        "1000000"
+        "help: `--budget B`, at most 1000000\n"
     });
-    page.end_line();
 }
 
 /// Puts that no node is left to expand.
 pub fn put_exhausted(page: &mut Page, call: &Call<'_>) {
-    put_file(page, call.problem);
-    page.put("no plan: no node is left to expand");
-    page.end_line();
-    page.put(
-        "note: each step was given its least lawful duration, so a plan with longer steps may exist",
-    );
-    page.end_line();
+    put!(page; "{}: no plan: no node is left to expand\n", call.problem);
+    page.put("note: each step was given its least lawful duration, ");
+    page.put("so a plan with longer steps may exist\n");
     put_horizon(page, call);
 }
 
 /// The task of a call, with the actions in reach.
 fn task_of<N: Files>(alloc: Global, files: &mut N, call: &Call<'_>) -> Option<Task> {
-    if call.horizon > 1_000_000_000 {
-        return None;
-    }
-    let words = PlanWords {
-        domain: call.domain,
-        problem: call.problem,
-        plan: call.problem,
-        scale: call.scale,
-        horizon: call.horizon,
-    };
+    let words = plan_words(call)?;
     let domain = domain_in(alloc, files, words).ok()?;
     let problem = problem_in(alloc, files, words, &domain).ok()?;
     let limits = Limits::greatest(call.horizon);
@@ -89,16 +71,15 @@ fn put_goal(
 
 /// Puts which conjunct of the goal is out of reach.
 pub fn put_unreachable<N: Files>(
-    alloc: Global,
     page: &mut Page,
     files: &mut N,
     call: &Call<'_>,
 ) -> Result<(), AllocError> {
-    let Some(task) = task_of(alloc, files, call) else {
+    let Some(task) = task_of(page.alloc(), files, call) else {
         return Ok(());
     };
-    let atoms = reach(alloc, &task)?;
-    match read_text(alloc, files, call.problem) {
+    let atoms = reach(page.alloc(), &task)?;
+    match read_text(page.alloc(), files, call.problem) {
         Some(problem) => put_goal(page, &problem, &task, atoms.as_slice()),
         None => Ok(()),
     }

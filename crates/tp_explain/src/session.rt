@@ -79,12 +79,12 @@ impl<'w, N: Files, V: Write> Session<'w, N, V> {
     pub(crate) fn end<M: Files>(&mut self, status: u8, files: &mut M) {
         if status <= 1 {
             let answer = first_line(self.output.as_slice());
-            explain_ending(self.alloc, self.words, files, answer, &mut self.page);
+            explain_ending(self.words, files, answer, &mut self.page);
             self.narrator.ended(status, files, &mut self.page);
         } else {
             let line = without_end(self.fault.as_slice());
             let input = self.input.as_slice();
-            explain_fault(self.alloc, self.words, files, input, line, &mut self.page);
+            explain_fault(self.words, files, input, line, &mut self.page);
         }
         self.tell();
     }

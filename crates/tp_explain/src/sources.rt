@@ -14,23 +14,15 @@ pub(crate) struct PlanTexts {
     plan: String,
 }
 
-/// The text of a file. None where it gives none any more.
-fn text_in<N: Files>(alloc: Global, files: &mut N, name: &str) -> Option<String> {
-    match open_text(alloc, files, name) {
-        Ok(text) => Some(text),
-        Err(_) => None,
-    }
-}
-
 /// The texts of the files that the words name.
 pub(crate) fn texts_of<N: Files>(
     alloc: Global,
     files: &mut N,
     words: PlanWords<'_>,
 ) -> Option<PlanTexts> {
-    let domain = text_in(alloc, files, words.domain)?;
-    let problem = text_in(alloc, files, words.problem)?;
-    let plan = text_in(alloc, files, words.plan)?;
+    let domain = open_text(alloc, files, words.domain).ok()?;
+    let problem = open_text(alloc, files, words.problem).ok()?;
+    let plan = open_text(alloc, files, words.plan).ok()?;
     Some(PlanTexts {
         domain,
         problem,
@@ -64,7 +56,6 @@ impl PlanTexts {
     /// Puts the explanation of the line of a verdict.
     pub(crate) fn explain(
         &self,
-        alloc: Global,
         page: &mut Page,
         words: PlanWords<'_>,
         line: &str,
@@ -75,7 +66,7 @@ impl PlanTexts {
             plan: source(words.plan, self.plan.as_str()),
             scale: words.scale,
         };
-        explain_verdict(alloc, page, &texts, line)
+        explain_verdict(page, &texts, line)
     }
 }
 

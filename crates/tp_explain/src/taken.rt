@@ -5,7 +5,7 @@ ghost use Rattle.std.specs.Prelude.{None, if◌then◌else◌};
 use std::alloc::{AllocError, Global};
 use std::str::from_utf8;
 use tp_device::{Failed, Sink, Source as Reader};
-use tp_explain_text::Page;
+use tp_explain_text::Cut;
 use tp_script::{Lines, Next};
 
 /// The most bytes of a line of a journal.
@@ -62,11 +62,8 @@ pub fn next_of<S: Reader + Drop>(
     }
 }
 
-/// Puts a line of ASCII, at most 100 characters of it.
-pub fn put_line(page: &mut Page, bytes: &[u8]) {
-    let line = match bytes {
-        [front @ .., b'\n'] => front,
-        _ => bytes,
-    };
-    page.put_cut(from_utf8(line).unwrap_or("?"), 100);
+/// A line of ASCII, at most 100 characters of it.
+pub fn shown(bytes: &[u8]) -> Cut<'_> {
+    let line = bytes.strip_suffix(b"\n").unwrap_or(bytes);
+    Cut(from_utf8(line).unwrap_or("?"), 100)
 }

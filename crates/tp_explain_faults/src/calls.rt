@@ -15,7 +15,13 @@ pub struct Call<'w> {
     /// The journal that is kept.
     pub journal: &'w str,
     pub scale: Scale,
+    /// The same as it is written.
+    pub scale_word: &'w str,
     pub horizon: u32,
+    pub resumes: bool,
+    /// How many words are neither options nor their values, and how many of them are `-`.
+    pub words: usize,
+    pub inputs: usize,
 }
 
 /// Whether an option has its value in the next word.
@@ -28,24 +34,24 @@ fn has_value(word: &str) -> bool {
 
 /// Takes the value of an option.
 fn take_option<'w>(call: &mut Call<'w>, option: &str, value: &'w str) {
-    let number = value.parse::<u32>();
-    match (option.as_bytes(), number) {
-        (b"--journal", _) => call.journal = value,
-        (b"--scale", Ok(ticks)) => call.scale = Scale::from_number(ticks).unwrap_or(Scale::One),
-        (b"--horizon", Ok(horizon)) => call.horizon = horizon,
+    match option.as_bytes() {
+        b"--journal" => call.journal = value,
+        b"--resume" => call.resumes = true,
+        b"--scale" => {
+            let ticks = value.parse::<u32>().unwrap_or(1);
+            call.scale = Scale::from_number(ticks).unwrap_or(Scale::One);
+            call.scale_word = value;
+        }
+        b"--horizon" => call.horizon = value.parse::<u32>().unwrap_or(call.horizon),
         _ => {}
     }
 }
 
 /// Takes a word that is neither an option nor the value of one: the command, or a file.
-fn take_word<'w>(call: &mut Call<'w>, number: usize, word: &'w str) {
-    let place = if call.command == "audit" {
-        number
-    } else {
-        number.saturating_add(1)
-    };
-    match place {
-        _ if number == 0 => call.command = word,
+fn take_word<'w>(call: &mut Call<'w>, word: &'w str) {
+    let skipped = if call.command == "audit" { 0 } else { 1 };
+    match call.words.saturating_add(skipped) {
+        _ if call.words == 0 => call.command = word,
         1 => call.log = word,
         2 => call.domain = word,
         3 => call.problem = word,
@@ -53,53 +59,42 @@ fn take_word<'w>(call: &mut Call<'w>, number: usize, word: &'w str) {
         5 => call.owners = word,
         _ => {}
     }
-}
-
-/// What the words of a call have named so far, how many of them were no options, and the option
-/// that waits for its value: empty for none.
-#[derive(Clone, Copy)]
-struct Reading<'w> {
-    call: Call<'w>,
-    number: usize,
-    option: &'w str,
-}
-
-/// Takes the next word of a call.
-fn take_next<'w>(reading: &mut Reading<'w>, word: &'w str) {
-    if !reading.option.is_empty() {
-        take_option(&mut reading.call, reading.option, word);
-        reading.option = "";
-    } else if has_value(word) {
-        reading.option = word;
-    } else if word.starts_with("--") {
-        if let Some((name, value)) = word.split_once('=') {
-            take_option(&mut reading.call, name, value);
-        }
-    } else {
-        take_word(&mut reading.call, reading.number, word);
-        reading.number = reading.number.saturating_add(1);
+    call.words = call.words.saturating_add(1);
+    if word == "-" {
+        call.inputs = call.inputs.saturating_add(1);
     }
 }
 
 /// What the words of a call name.
 pub fn call_of(words: &[String]) -> Call<'_> {
-    let mut reading = Reading {
-        call: Call {
-            command: "bare",
-            domain: "",
-            problem: "",
-            plan: "",
-            owners: "",
-            log: "",
-            journal: "",
-            scale: Scale::One,
-            horizon: 1_000_000,
-        },
-        number: 0,
-        option: "",
+    let mut call = Call {
+        command: "bare",
+        domain: "",
+        problem: "",
+        plan: "",
+        owners: "",
+        log: "",
+        journal: "",
+        scale: Scale::One,
+        scale_word: "",
+        horizon: 1_000_000,
+        resumes: false,
+        words: 0,
+        inputs: 0,
     };
+    let mut option = "";
     for word in words {
-        take_next(&mut reading, word.as_str());
+        let word = word.as_str();
+        if !option.is_empty() {
+            take_option(&mut call, option, word);
+            option = "";
+        } else if has_value(word) {
+            option = word;
+        } else if !word.starts_with("--") {
+            take_word(&mut call, word);
+        } else if let Some((name, value)) = word.split_once('=') {
+            take_option(&mut call, name, value);
+        }
     }
-    reading.call
+    call
 }

@@ -1,51 +1,38 @@
 //! The events of a plan.
 
 use crate::actions::{action_named, is_durative};
-use crate::steps::{StepLine, Word, next_piece, read_step, text_of};
+use crate::steps::{Word, next_piece, read_step, text_of};
 use std::alloc::{AllocError, Global};
+use std::fmt;
 use tp_explain_syntax::World;
-use tp_explain_text::Page;
+use tp_explain_text::Lower;
 
-/// What an event is of its step.
-#[derive(Clone, Copy, Debug, PartialEq, Eq)]
-pub enum Moment {
-    Start,
-    End,
-    Only,
-}
-
-/// An event of a plan: its number, what it is of which step, and the words of that.
+/// An event of a plan: its number, what it is of its step, the number of that, and its words.
 #[derive(Drop)]
 pub struct Event<'p> {
-    pub number: u64,
-    pub moment: Moment,
-    pub step: u64,
-    pub words: Vec<Word<'p>>,
+    number: u64,
+    part: &'static str,
+    step: u64,
+    words: Vec<Word<'p>>,
 }
 
-/// Puts an event, as `event 4, the start of step 2 (fire jug)`.
-pub fn put_event(page: &mut Page, event: &Event<'_>) {
-    page.put("event ");
-    page.put_number(event.number);
-    page.put(match event.moment {
-        Moment::Start => ", the start of step ",
-        Moment::End => ", the end of step ",
-        Moment::Only => ", step ",
-    });
-    page.put_number(event.step);
-    page.put(" (");
-    for (number, word) in event.words.iter().enumerate() {
-        page.put(if number == 0 { "" } else { " " });
-        page.put_lower(word.text);
-    }
-    page.put(")");
-}
-
-/// Whether a step lasts.
-fn lasts(world: &World<'_>, step: &StepLine<'_>) -> bool {
-    match action_named(world, text_of(step.words.first())) {
-        Some(action) => is_durative(action),
-        None => false,
+/// As `event 4, the start of step 2 (fire jug)`.
+impl fmt::Display for Event<'_> {
+    fn fmt<W: fmt::Write>(&self, f: &mut fmt::Formatter<W>) -> fmt::Result {
+        write!(
+            f,
+            "event {}, {}step {} (",
+            self.number, self.part, self.step
+        )?;
+        for (number, word) in self.words.iter().enumerate() {
+            write!(
+                f,
+                "{}{}",
+                if number == 0 { "" } else { " " },
+                Lower(word.text)
+            )?;
+        }
+        write!(f, ")")
     }
 }
 
@@ -57,11 +44,11 @@ pub struct Events<'p> {
 }
 
 /// What an event is whose number is so many past that of the first event of its step.
-fn moment_of(durative: bool, past: u64) -> Moment {
-    match (durative, past) {
-        (false, _) => Moment::Only,
-        (true, 0) => Moment::Start,
-        (true, _) => Moment::End,
+fn part_of(lasts: bool, past: u64) -> &'static str {
+    match (lasts, past) {
+        (false, _) => "",
+        (true, 0) => "the start of ",
+        (true, _) => "the end of ",
     }
 }
 
@@ -82,13 +69,14 @@ pub fn events_of<'p>(
         let Some(step) = read_step(alloc, line, 0)? else {
             continue;
         };
-        let durative = lasts(world, &step);
-        let many = if durative { 2 } else { 1 };
+        let action = action_named(world, text_of(step.words.first()));
+        let lasts = action.map_or(false, |action| is_durative(action));
+        let many = if lasts { 2 } else { 1 };
         let past = wanted.saturating_sub(count);
         if count <= wanted && past < many {
             found = Some(Event {
                 number: wanted,
-                moment: moment_of(durative, past),
+                part: part_of(lasts, past),
                 step: number,
                 words: step.words,
             });

@@ -1,11 +1,16 @@
 //! The parts of a fault line.
 
-/// A fault line: its part, its word, and what stands behind it.
+use crate::calls::Call;
+
+/// A fault line: its part, its word, and what stands behind it; and the call that it ended, with
+/// what was read of standard input.
 #[derive(Clone, Copy)]
 pub struct Line<'l> {
     pub part: &'l str,
     pub word: &'l str,
     pub rest: &'l str,
+    pub call: Call<'l>,
+    pub input: &'l [u8],
 }
 
 /// The first word of a text, and what stands behind the space that follows it.
@@ -23,14 +28,20 @@ pub fn cut_fault(text: &str) -> (&str, &str) {
 }
 
 /// The parts of a line, if it is one of a fault.
-pub fn line_of(text: &str) -> Option<Line<'_>> {
+pub fn line_of<'l>(text: &'l str, call: Call<'l>, input: &'l [u8]) -> Option<Line<'l>> {
     let (fault, behind) = cut_word(text);
     if fault != "fault" {
         return None;
     }
     let (part, behind) = cut_word(behind);
     let (word, rest) = cut_fault(behind);
-    Some(Line { part, word, rest })
+    Some(Line {
+        part,
+        word,
+        rest,
+        call,
+        input,
+    })
 }
 
 /// The number at the front of a text.

@@ -1,10 +1,11 @@
 //! Lines that are no journal's.
 
-use crate::words::{next_word, number_in};
 use std::alloc::{AllocError, Global};
+use std::fmt;
 use tp_cli_files::Files;
 use tp_device::Source as Reader;
-use tp_explain_text::{Page, put_line_place, put_mark_of_line};
+use tp_explain_text::{Page, put, put_mark_of_line};
+use tp_script::{next_word, read_number};
 
 /// The most bytes of a line of a journal.
 const LONGEST: usize = 16_384;
@@ -34,12 +35,6 @@ fn is_wanted(number: u64, wanted: u64) -> bool {
 }
 
 impl Keeper {
-    /// The lines that were kept.
-    fn into_kept(self) -> Vec<KeptLine> {
-        let Keeper { kept, .. } = self;
-        kept
-    }
-
     /// Begins the next line with its first byte.
     fn begin(&mut self, wanted: u64) -> Result<(), AllocError> {
         self.number = self.number.saturating_add(1);
@@ -74,7 +69,7 @@ impl Keeper {
         Ok(())
     }
 
-    /// Takes bytes. Answers whether the line that is wanted is whole.
+    /// Takes bytes. Answers whether they end inside a line.
     fn take_all(&mut self, bytes: &[u8], wanted: u64, inside: bool) -> Result<bool, AllocError> {
         let mut inside = inside;
         for byte in bytes {
@@ -85,6 +80,20 @@ impl Keeper {
             inside = *byte != b'\n';
         }
         Ok(inside)
+    }
+
+    /// Takes what a source gives, up to the line that is wanted.
+    fn take_source<S: Reader>(&mut self, source: &mut S, wanted: u64) -> Result<(), AllocError> {
+        let mut chunk = [0; 4096];
+        let mut inside = false;
+        for _ in 0..2_097_152u32 {
+            let count = source.pull(&mut chunk).unwrap_or(0);
+            if count == 0 || self.number > wanted {
+                break;
+            }
+            inside = self.take_all(chunk.get(..count).unwrap_or(&[]), wanted, inside)?;
+        }
+        Ok(())
     }
 }
 
@@ -102,25 +111,12 @@ pub fn keep_lines<N: Files>(
         number: 0,
         is_kept: false,
     };
-    let Ok(source) = files.open(name) else {
-        return Ok(keeper.into_kept());
-    };
-    let mut source = source;
-    let mut chunk = [0; 4096];
-    let mut inside = false;
-    for _ in 0..2_097_152u32 {
-        if keeper.number > wanted {
-            break;
-        }
-        let Ok(count) = source.pull(&mut chunk) else {
-            break;
-        };
-        if count == 0 {
-            break;
-        }
-        inside = keeper.take_all(chunk.get(..count).unwrap_or(&[]), wanted, inside)?;
+    if let Ok(source) = files.open(name) {
+        let mut source = source;
+        keeper.take_source(&mut source, wanted)?;
     }
-    Ok(keeper.into_kept())
+    let Keeper { kept, .. } = keeper;
+    Ok(kept)
 }
 
 /// A line that was kept, by its number.
@@ -137,7 +133,7 @@ fn own_bounds(lines: &[KeptLine]) -> u64 {
     if word != b"own".as_slice() {
         return 0;
     }
-    number_in(next_word(behind).0).unwrap_or(0)
+    read_number(next_word(behind).0).unwrap_or(0)
 }
 
 /// What is wanted on a line.
@@ -159,98 +155,73 @@ fn wanted_form(lines: &[KeptLine], number: u64) -> &'static str {
     }
 }
 
-/// Puts what was found on a line: its first word, or all of it where that is a sign of what is
-/// wanted.
-fn put_found(page: &mut Page, line: Option<&KeptLine>) {
-    let Some(line) = line else {
-        page.put("the end of the file");
-        return;
-    };
-    let bytes = line.bytes.as_slice();
-    let (word, _) = next_word(bytes);
-    if word.is_empty() {
-        page.put("an empty line");
-        return;
+/// At most 60 characters of a line; those past ASCII are `?`.
+#[derive(Clone, Copy)]
+struct Ascii<'l>(&'l [u8]);
+
+impl fmt::Display for Ascii<'_> {
+    fn fmt<W: fmt::Write>(&self, f: &mut fmt::Formatter<W>) -> fmt::Result {
+        for byte in self.0.iter().take(60) {
+            let is_shown = b' ' <= *byte && *byte <= b'~';
+            write!(f, "{}", if is_shown { char::from(*byte) } else { '?' })?;
+        }
+        write!(f, "{}", if self.0.len() > 60 { "..." } else { "" })
     }
-    page.put("`");
-    match word {
-        [b'>' | b'<'] => put_text(page, bytes),
-        _ => put_text(page, word_of(word)),
-    }
-    page.put("`");
 }
 
 /// A word up to a parenthesis, a bracket or a semicolon in it, unless it begins with one.
 fn word_of(word: &[u8]) -> &[u8] {
-    for (count, byte) in word.iter().enumerate() {
-        if count > 0 && matches!(*byte, b'(' | b')' | b'[' | b']' | b';') {
-            return word.get(..count).unwrap_or(word);
-        }
+    let ends = |byte: &u8| matches!(*byte, b'(' | b')' | b'[' | b']' | b';');
+    let end = word.iter().skip(1).position(ends);
+    end.and_then(|end| word.get(..=end)).unwrap_or(word)
+}
+
+/// Puts what was wanted on a line, and what was found: its first word, or all of it where that is a
+/// sign of what is wanted.
+fn put_found(page: &mut Page, wanted: &str, line: Option<&KeptLine>) {
+    let Some(line) = line else {
+        put!(page; "expected {wanted}, found the end of the file\n");
+        return;
+    };
+    let bytes = line.bytes.as_slice();
+    match next_word(bytes).0 {
+        [] => put!(page; "expected {wanted}, found an empty line\n"),
+        [b'>' | b'<'] => put!(page; "expected {wanted}, found `{}`\n", Ascii(bytes)),
+        word => put!(page; "expected {wanted}, found `{}`\n", Ascii(word_of(word))),
     }
-    word
 }
 
-fn put_text(page: &mut Page, bytes: &[u8]) {
-    for byte in bytes.iter().take(60) {
-        page.put_byte(match *byte {
-            b' '..=b'~' => *byte,
-            _ => b'?',
-        });
-    }
-    page.put(if bytes.len() > 60 { "..." } else { "" });
-}
-
-fn put_cut_help(page: &mut Page) {
-    page.put("help: after a crash, cut the journal behind its last whole pair");
-    page.end_line();
-}
-
-/// Puts the command to which an answer is missing.
+/// Puts the command to which an answer is missing. Answers whether one is.
 fn put_command(page: &mut Page, lines: &[KeptLine], number: u64) -> bool {
     let before = number.saturating_sub(1);
-    let Some(line) = kept_line(lines, before) else {
+    let line = kept_line(lines, before).map_or(&[][..], |line| line.bytes.as_slice());
+    let [b'>', b' ', command @ ..] = line else {
         return false;
     };
-    let [b'>', b' ', command @ ..] = line.bytes.as_slice() else {
-        return false;
-    };
-    page.put("note: line ");
-    page.put_number(before);
-    page.put(" is the command `");
-    put_text(page, command);
-    page.put("`");
-    page.end_line();
+    put!(page; "note: line {before} is the command `{}`\n", Ascii(command));
     true
 }
 
 /// Puts what is wrong with a line of a journal: it is too long, does not end, or is none.
 pub fn put_journal_line(page: &mut Page, name: &str, lines: &[KeptLine], number: u64) {
     let line = kept_line(lines, number);
-    put_line_place(page, name, number, 1);
-    page.put("error: ");
+    put!(page; "{name}:{number}:1: error: ");
     let is_long = line.map_or(false, |line| line.is_long);
     let is_open = line.map_or(false, |line| !line.is_ended);
     if is_long {
-        page.put("the line has more than 16384 bytes");
+        page.put("the line has more than 16384 bytes\n");
     } else if is_open {
-        page.put("the line does not end");
+        page.put("the line does not end\n");
     } else {
-        page.put("expected ");
-        page.put(wanted_form(lines, number));
-        page.put(", found ");
-        put_found(page, line);
+        put_found(page, wanted_form(lines, number), line);
     }
-    page.end_line();
     if let Some(line) = line {
         put_mark_of_line(page, line.bytes.as_slice(), 0);
     }
     let is_missing = line.is_none() && put_command(page, lines, number);
     if is_missing || (is_open && !is_long) {
-        put_cut_help(page);
+        page.put("help: after a crash, cut the journal behind its last whole pair\n");
     } else {
-        page.put("help: see that ");
-        page.put(name);
-        page.put(" is a journal");
-        page.end_line();
+        put!(page; "help: see that {name} is a journal\n");
     }
 }

@@ -1,8 +1,7 @@
 //! What stands behind a fault line with `--explain`.
 //!
 //! - `arguments`: words that are those of no command, where nothing else is said of them
-//! - `files`, `wholes`: files that give no text; what concerns a file as a whole
-//! - `scripts`, `words`: the head of commands, and the words of their lines
+//! - `scripts`: the head of commands
 //! - `journals`: lines that are no journal's
 //! - `steps`, `lines`: the parts of a line of a plan, and what is wrong with one that is no step
 //! - `actions`, `times`: what is wrong with the words of a step, its time and its duration
@@ -22,7 +21,6 @@ mod contents;
 mod events;
 mod explain;
 mod fault_lines;
-mod files;
 mod journals;
 mod lines;
 mod owners;
@@ -32,8 +30,6 @@ mod steps;
 mod tasks;
 mod texts;
 mod times;
-mod wholes;
-mod words;
 mod worlds;
 
 pub use calls::{Call, call_of};

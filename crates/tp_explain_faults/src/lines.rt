@@ -2,7 +2,7 @@
 
 use crate::steps::{Piece, line_of, next_piece, next_place};
 use std::str::from_utf8;
-use tp_explain_text::{Page, Source, end_headline, put_error_at};
+use tp_explain_text::{Page, Source, error_at, put, without_return};
 use tp_syntax_ast::is_name;
 use tp_text::has_time_form;
 
@@ -105,83 +105,63 @@ fn first_misfit(line: &[u8]) -> Misfit<'_> {
     }
 }
 
-/// How many bytes of the word at the front are shown: up to a blank, a parenthesis, a bracket or a
-/// comment.
-fn shown_len(bytes: &[u8]) -> usize {
-    for (count, byte) in bytes.iter().enumerate() {
-        match *byte {
-            b'(' | b')' | b'[' | b']' | b';' => return count,
-            other if other < b'!' || b'~' < other => return count,
-            _ => {}
-        }
-    }
-    bytes.len()
+/// The word at the front up to a blank, a parenthesis, a bracket or a comment.
+fn shown(bytes: &[u8]) -> &str {
+    let end = bytes.iter().position(|byte| match *byte {
+        b'(' | b')' | b'[' | b']' | b';' => true,
+        byte => byte < b'!' || b'~' < byte,
+    });
+    text_in(bytes.get(..end.unwrap_or(bytes.len())).unwrap_or(bytes))
 }
 
-/// Puts the list that begins at a place of a line.
-fn put_list(page: &mut Page, line: &[u8], at: usize) {
-    page.put("(");
-    let from = at.saturating_add(1);
-    let Some(head) = next_piece(line, from) else {
-        page.put("..)");
+/// A part of a line as text.
+fn text_in(bytes: &[u8]) -> &str {
+    from_utf8(bytes).unwrap_or("?")
+}
+
+/// The list that begins at a place of a line: its head, and what stands behind that.
+fn brief(line: &[u8], at: usize) -> (&str, &'static str) {
+    match next_piece(line, at.saturating_add(1)) {
+        Some(head) if head.is_word => match next_piece(line, head.end()) {
+            Some(next) if next.is_sign(b')') => (text_in(head.text), ")"),
+            _ => (text_in(head.text), " ..)"),
+        },
+        Some(head) if head.is_sign(b')') => ("", ")"),
+        _ => ("", "..)"),
+    }
+}
+
+/// Puts what was wanted at a place, and what stands there.
+fn put_expected(page: &mut Page, plan: Source<'_>, at: usize, line: &[u8], misfit: &Misfit<'_>) {
+    let Some(piece) = misfit.piece else {
+        let wanted = misfit.wanted.words(false);
+        error_at!(page, plan, at; "expected {wanted}, found the end of the line");
         return;
     };
-    if head.is_sign(b')') {
-        page.put(")");
-        return;
-    }
-    if !head.is_word {
-        page.put("..)");
-        return;
-    }
-    page.put_bytes(head.text);
-    match next_piece(line, head.end()) {
-        Some(next) if next.is_sign(b')') => page.put(")"),
-        _ => page.put(" ..)"),
-    }
-}
-
-/// Puts what stands at a place of a line.
-fn put_found(page: &mut Page, line: &[u8], piece: &Piece<'_>) {
-    page.put("`");
+    let wanted = misfit.wanted.words(piece.is_word);
     if piece.is_sign(b'(') {
-        put_list(page, line, piece.at);
+        let (head, behind) = brief(line, piece.at);
+        error_at!(page, plan, at; "expected {wanted}, found `({head}{behind}`");
     } else if piece.is_word {
-        let rest = line.get(piece.at..).unwrap_or(&[]);
-        match rest.get(..shown_len(rest)).unwrap_or(rest) {
-            [word @ .., b':'] => page.put_bytes(word),
-            word => page.put_bytes(word),
-        }
+        let word = shown(line.get(piece.at..).unwrap_or(&[]));
+        let word = word.strip_suffix(':').unwrap_or(word);
+        error_at!(page, plan, at; "expected {wanted}, found `{word}`");
     } else {
-        page.put_bytes(piece.text);
+        error_at!(page, plan, at; "expected {wanted}, found `{}`", text_in(piece.text));
     }
-    page.put("`");
 }
 
 /// Puts what can be written instead, where there is no time.
 fn put_time_help(page: &mut Page, line: &[u8], piece: &Piece<'_>) {
-    if piece.is_sign(b'(') {
-        page.put("help: write a time before it, as in `0: ");
-        put_list(page, line, piece.at);
-        page.put("`");
-        page.end_line();
-        return;
-    }
     let begins_number = match piece.text {
         [first, ..] => first.is_ascii_digit() || *first == b'-' || *first == b'.',
         [] => false,
     };
-    if piece.is_word && !begins_number {
-        page.put("help: begin a comment with `;`");
-        page.end_line();
-    }
-}
-
-/// A line without a carriage return at its end.
-fn without_return(line: &[u8]) -> &[u8] {
-    match line {
-        [front @ .., b'\r'] => front,
-        _ => line,
+    if piece.is_sign(b'(') {
+        let (head, behind) = brief(line, piece.at);
+        put!(page; "help: write a time before it, as in `0: ({head}{behind}`\n");
+    } else if piece.is_word && !begins_number {
+        page.put("help: begin a comment with `;`\n");
     }
 }
 
@@ -192,22 +172,8 @@ pub fn put_line(page: &mut Page, plan: Source<'_>, number: u64) {
     };
     let line = without_return(whole);
     let misfit = first_misfit(line);
-    let at = begin.saturating_add(misfit.at);
-    put_error_at(page, plan, at);
-    page.put("expected ");
-    page.put(
-        misfit
-            .wanted
-            .words(misfit.piece.map_or(false, |piece| piece.is_word)),
-    );
-    page.put(", found ");
-    match misfit.piece {
-        Some(piece) => put_found(page, line, &piece),
-        None => page.put("the end of the line"),
-    }
-    end_headline(page, plan, at);
-    page.put("note: a step is `TIME: (NAME ARG ..) [DURATION]`");
-    page.end_line();
+    put_expected(page, plan, begin.saturating_add(misfit.at), line, &misfit);
+    page.put("note: a step is `TIME: (NAME ARG ..) [DURATION]`\n");
     if let (Wanted::Time, Some(piece)) = (misfit.wanted, misfit.piece) {
         put_time_help(page, line, &piece);
     }
@@ -225,9 +191,7 @@ pub fn put_too_many_steps(page: &mut Page, plan: Source<'_>) {
             count = count.saturating_add(1);
             if count > MOST_STEPS {
                 let at = begin.saturating_add(piece.at);
-                put_error_at(page, plan, at);
-                page.put("the plan has more than 512 steps");
-                end_headline(page, plan, at);
+                error_at!(page, plan, at; "the plan has more than 512 steps");
                 return;
             }
         }

@@ -1,8 +1,8 @@
 //! The agents of events.
 
-use crate::events::{Event, put_event};
+use crate::events::Event;
 use std::str::from_utf8;
-use tp_explain_text::{Page, Source, end_headline, put_error_at, put_file};
+use tp_explain_text::{Count, Page, Source, error_at, put};
 
 /// The greatest number of an agent.
 const GREATEST: u32 = 1023;
@@ -61,43 +61,22 @@ fn number_of(word: &[u8]) -> Option<u32> {
 }
 
 fn put_counts(page: &mut Page, words: u64, events: u64) {
-    page.put("note: the file has ");
-    page.put_count(words, "number", "numbers");
-    page.put(", the network ");
-    page.put_count(events, "event", "events");
-    page.end_line();
-}
-
-/// Puts that an event has no agent.
-fn put_missing(page: &mut Page, source: Source<'_>, event: &Event<'_>, words: u64, events: u64) {
-    put_file(page, source.name);
-    page.put("error: ");
-    put_event(page, event);
-    page.put(", has no agent");
-    page.end_line();
-    put_counts(page, words, events);
+    let words = Count(words, "number", "numbers");
+    put!(page; "note: the file has {words}, the network {}\n", Count(events, "event", "events"));
 }
 
 /// Puts what is wrong with the number of an agent.
 fn put_number(page: &mut Page, source: Source<'_>, word: &Word<'_>, event: Option<&Event<'_>>) {
-    put_error_at(page, source, word.at);
     match number_of(word.text) {
         Some(number) if number > GREATEST => {
-            page.put("agent ");
-            page.put_number(u64::from(number));
-            page.put(" is past 1023, the greatest");
+            error_at!(page, source, word.at; "agent {number} is past 1023, the greatest");
         }
-        _ => {
-            page.put("expected a number of one to four digits, found `");
-            page.put_bytes(word.text);
-            page.put("`");
-        }
+        _ => error_at!(page, source, word.at;
+            "expected a number of one to four digits, found `{}`",
+            from_utf8(word.text).unwrap_or("?")),
     }
-    end_headline(page, source, word.at);
     if let Some(event) = event {
-        page.put("note: it is for ");
-        put_event(page, event);
-        page.end_line();
+        put!(page; "note: it is for {event}\n");
     }
 }
 
@@ -112,12 +91,12 @@ pub fn put_owner(
 ) {
     let (word, words) = word_at(source.text, number);
     match (word, event) {
-        (None, Some(event)) => put_missing(page, source, event, words, events),
+        (None, Some(event)) => {
+            put!(page; "{}: error: {event}, has no agent\n", source.name);
+            put_counts(page, words, events);
+        }
         (Some(word), None) if number_of(word.text).is_some() => {
-            put_error_at(page, source, word.at);
-            page.put("there is no event ");
-            page.put_number(number);
-            end_headline(page, source, word.at);
+            error_at!(page, source, word.at; "there is no event {number}");
             put_counts(page, words, events);
         }
         (Some(word), event) => put_number(page, source, &word, event),

@@ -1,13 +1,9 @@
 //! The head of commands: `network N H` and lags.
 
-use crate::wholes::put_whole;
-use crate::words::{next_word, number_in};
-use std::alloc::{AllocError, Global};
+use std::alloc::AllocError;
 use std::str::from_utf8;
-use tp_explain_text::{Page, Source, end_headline, put_error_at};
-
-/// The name of standard input.
-const STDIN: &str = "stdin";
+use tp_explain_text::{Page, Source, error_at, put};
+use tp_script::{next_word, read_number};
 
 /// The most bytes of a line, events, ticks of the horizon, and ticks of a lag.
 const LONGEST: usize = 256;
@@ -59,24 +55,22 @@ fn words_of(line: &[u8], begin: usize) -> Words<'_> {
 
 /// The number that a word spells.
 fn number_of(word: Option<Word<'_>>) -> Option<u64> {
-    number_in(word?.text.as_bytes())
+    read_number(word?.text.as_bytes())
 }
 
 fn put_note(page: &mut Page) {
-    page.put("note: N is the number of events, at most 1024; H the horizon, at most 1000000000");
-    page.end_line();
+    page.put("note: N is the number of events, at most 1024; H the horizon, at most 1000000000\n");
 }
 
 /// Puts that the head is not of its form: what was found where it goes wrong.
 fn put_no_head(page: &mut Page, source: Source<'_>, at: usize, found: Option<&str>) {
-    put_error_at(page, source, at);
-    page.put("expected `network N H`, found ");
     match found {
-        Some(word) => page.put_code(word),
-        None if source.text.is_empty() => page.put("the end of the input"),
-        None => page.put("the end of the line"),
+        Some(word) => error_at!(page, source, at; "expected `network N H`, found `{word}`"),
+        None if source.text.is_empty() => {
+            error_at!(page, source, at; "expected `network N H`, found the end of the input");
+        }
+        None => error_at!(page, source, at; "expected `network N H`, found the end of the line"),
     }
-    end_headline(page, source, at);
     put_note(page);
 }
 
@@ -101,50 +95,40 @@ fn first_misfit<'i>(words: &Words<'i>) -> Option<(usize, Option<&'i str>)> {
     Some((more.at, Some(more.text)))
 }
 
-fn put_headline(page: &mut Page, source: Source<'_>, at: usize, number: u64, what: &str) {
-    put_error_at(page, source, at);
-    page.put_number(number);
-    page.put(what);
-    end_headline(page, source, at);
-}
-
-/// Puts which number of a head is too great.
-fn put_too_great(page: &mut Page, source: Source<'_>, words: &Words<'_>) {
+/// Puts which number of a head is too great. Answers whether one is.
+fn put_too_great(page: &mut Page, source: Source<'_>, words: &Words<'_>) -> bool {
     let [_, events, horizon, _] = words.first;
     let many = number_of(events).unwrap_or(0);
-    if let (true, Some(word)) = (many > MOST_EVENTS, events) {
-        put_headline(page, source, word.at, many, " events are more than 1024");
-        return;
-    }
     let late = number_of(horizon).unwrap_or(0);
-    if let (true, Some(word)) = (late > GREATEST_HORIZON, horizon) {
-        let what = " is past 1000000000, the greatest horizon";
-        put_headline(page, source, word.at, late, what);
+    if many > MOST_EVENTS {
+        let at = events.map_or(words.end, |word| word.at);
+        error_at!(page, source, at; "{many} events are more than 1024");
+    } else if late > GREATEST_HORIZON {
+        let at = horizon.map_or(words.end, |word| word.at);
+        error_at!(page, source, at; "{late} is past 1000000000, the greatest horizon");
     }
+    many > MOST_EVENTS || late > GREATEST_HORIZON
 }
 
 /// The first line of bytes, and what is behind its end.
 fn first_line(bytes: &[u8]) -> (&[u8], &[u8]) {
-    for (at, byte) in bytes.iter().enumerate() {
-        if *byte == b'\n' {
-            let line = bytes.get(..at).unwrap_or(bytes);
-            return (line, bytes.get(at.saturating_add(1)..).unwrap_or(&[]));
-        }
-    }
-    (bytes, &[])
+    let end = bytes
+        .iter()
+        .position(|byte| *byte == b'\n')
+        .unwrap_or(bytes.len());
+    let behind = bytes.get(end.saturating_add(1)..).unwrap_or(&[]);
+    (bytes.get(..end).unwrap_or(bytes), behind)
 }
 
 /// Puts what is wrong with the head of the commands of `bare`, or with the lags behind it.
-pub fn put_head(alloc: Global, page: &mut Page, input: &[u8]) -> Result<(), AllocError> {
+pub fn put_head(page: &mut Page, input: &[u8]) -> Result<(), AllocError> {
     let source = Source {
-        name: STDIN,
+        name: "stdin",
         text: input,
     };
     let (line, behind) = first_line(input);
     if line.len() > LONGEST {
-        put_error_at(page, source, 0);
-        page.put("the line has more than 256 bytes");
-        end_headline(page, source, 0);
+        error_at!(page, source, 0; "the line has more than 256 bytes");
         put_note(page);
         return Ok(());
     }
@@ -153,28 +137,12 @@ pub fn put_head(alloc: Global, page: &mut Page, input: &[u8]) -> Result<(), Allo
         put_no_head(page, source, at, found);
         return Ok(());
     }
-    let [_, events, horizon, _] = words.first;
-    let many = number_of(events).unwrap_or(0);
-    if many > MOST_EVENTS || number_of(horizon).unwrap_or(0) > GREATEST_HORIZON {
-        put_too_great(page, source, &words);
+    if put_too_great(page, source, &words) {
         return Ok(());
     }
+    let [_, events, _, _] = words.first;
     let begin = input.len().saturating_sub(behind.len());
-    put_lags_from(alloc, page, source, behind, begin, many)
-}
-
-/// Puts what is wrong with the lags with which the commands of a network of so many events begin.
-pub fn put_lags(
-    alloc: Global,
-    page: &mut Page,
-    input: &[u8],
-    events: u64,
-) -> Result<(), AllocError> {
-    let source = Source {
-        name: STDIN,
-        text: input,
-    };
-    put_lags_from(alloc, page, source, input, 0, events)
+    put_lags(page, input, begin, number_of(events).unwrap_or(0))
 }
 
 /// A lag that was set.
@@ -198,21 +166,23 @@ fn lag_of(words: &Words<'_>) -> Option<Lag> {
     Some(Lag { event, ticks })
 }
 
-/// Puts what is wrong with the first lag that does not fit.
-fn put_lags_from(
-    alloc: Global,
+/// Puts what is wrong with the first lag that does not fit, of those that stand in the commands of
+/// a network of so many events from a place on.
+pub fn put_lags(
     page: &mut Page,
-    source: Source<'_>,
-    text: &[u8],
+    input: &[u8],
     begin: usize,
     events: u64,
 ) -> Result<(), AllocError> {
-    let mut lags = Vec::new(alloc);
-    let mut rest = text;
-    let mut at = begin;
-    for _ in 0..text.len() {
+    let source = Source {
+        name: "stdin",
+        text: input,
+    };
+    let mut lags = Vec::new(page.alloc());
+    let mut rest = input.get(begin..).unwrap_or(&[]);
+    for _ in 0..input.len() {
         let (line, behind) = first_line(rest);
-        let words = words_of(line, at);
+        let words = words_of(line, input.len().saturating_sub(rest.len()));
         let Some(lag) = lag_of(&words) else {
             break;
         };
@@ -222,7 +192,6 @@ fn put_lags_from(
         if lag.ticks != 0 {
             lags.push(lag)?;
         }
-        at = at.saturating_add(rest.len().saturating_sub(behind.len()));
         rest = behind;
     }
     Ok(())
@@ -237,50 +206,31 @@ fn put_lag(
     before: &[Lag],
     events: u64,
 ) -> bool {
-    let [_, event, ticks, _] = words.first;
-    let event_at = event.map_or(words.end, |word| word.at);
-    let ticks_at = ticks.map_or(words.end, |word| word.at);
-    if lag.event >= events {
-        put_no_event(page, source, event_at, lag.event, events);
+    let [_, event_word, ticks_word, _] = words.first;
+    let Lag { event, ticks } = lag;
+    let at = event_word.map_or(words.end, |word| word.at);
+    if event >= events {
+        put_no_event(page, source, at, event, events);
         return true;
     }
-    if lag.ticks > GREATEST_LAG {
-        let what = " is past 1000000000, the greatest lag";
-        put_headline(page, source, ticks_at, lag.ticks, what);
+    if ticks > GREATEST_LAG {
+        let at = ticks_word.map_or(words.end, |word| word.at);
+        error_at!(page, source, at; "{ticks} is past 1000000000, the greatest lag");
         return true;
     }
-    let Some(first) = before.iter().find(|first| first.event == lag.event) else {
+    let Some(first) = before.iter().find(|first| first.event == event) else {
         return false;
     };
-    put_error_at(page, source, event_at);
-    page.put("event ");
-    page.put_number(lag.event);
-    page.put(" has the lag ");
-    page.put_number(first.ticks);
-    page.put(" already");
-    end_headline(page, source, event_at);
+    error_at!(page, source, at; "event {event} has the lag {} already", first.ticks);
     true
 }
 
 /// Puts that there is no event of a number.
 fn put_no_event(page: &mut Page, source: Source<'_>, at: usize, event: u64, events: u64) {
-    put_error_at(page, source, at);
-    page.put("there is no event ");
-    page.put_number(event);
-    end_headline(page, source, at);
+    error_at!(page, source, at; "there is no event {event}");
     match events {
-        0 => page.put("note: there are no events"),
-        1 => page.put("note: the only event is 0"),
-        _ => {
-            page.put("note: the events are 0 to ");
-            page.put_number(events.saturating_sub(1));
-        }
+        0 => page.put("note: there are no events\n"),
+        1 => page.put("note: the only event is 0\n"),
+        _ => put!(page; "note: the events are 0 to {}\n", events.saturating_sub(1)),
     }
-    page.end_line();
-}
-
-/// Puts that the input is too long.
-pub fn put_too_much_input(page: &mut Page) {
-    let what = "the input has more than 4294967296 bytes";
-    put_whole(page, STDIN, what, "begin a new run");
 }

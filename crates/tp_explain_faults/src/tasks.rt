@@ -1,14 +1,11 @@
 //! Tasks that are too large, and numbers that are too great.
 
-use crate::actions::parameters_of;
 use std::alloc::{AllocError, Global};
 use tp_explain_syntax::{
-    Declared, Kind, Types, World, declarations_of, fits, is_action, section_of, typed_items,
+    Declared, Kind, Types, World, declarations_of, fits, is_action, parameters_in, section_of,
+    typed_items,
 };
-use tp_explain_text::{
-    Page, Source, Text, Tree, Word, end_headline, is_the_word, items_of, place_of, put_error_at,
-    word_of,
-};
+use tp_explain_text::{Page, Source, Text, Tree, error_at, put};
 use tp_text::read_whole;
 
 /// Objects that were declared together, as one of them is, and how many they are.
@@ -20,7 +17,7 @@ struct Row<'t> {
 
 /// Where the types of an object stand.
 fn types_place(object: &Declared<'_>) -> Option<(bool, usize)> {
-    object.types.map(|tree| (object.in_problem, place_of(tree)))
+    object.types.map(|tree| (object.in_problem, tree.place()))
 }
 
 /// The objects in rows of the same types.
@@ -51,20 +48,6 @@ fn count_for<'t>(types: &Types<'t>, rows: &[Row<'t>], parameter: &Declared<'t>) 
     count
 }
 
-/// How many objects may stand for each parameter.
-fn counts_for<'t>(
-    alloc: Global,
-    types: &Types<'t>,
-    rows: &[Row<'t>],
-    parameters: &[Declared<'t>],
-) -> Result<Vec<u64>, AllocError> {
-    let mut counts = Vec::new(alloc);
-    for parameter in parameters {
-        counts.push(count_for(types, rows, parameter))?;
-    }
-    Ok(counts)
-}
-
 /// The product of some counts.
 fn product(counts: &[u64]) -> u64 {
     let mut many = 1u64;
@@ -82,55 +65,35 @@ struct Counted<'t> {
     counts: Vec<u64>,
 }
 
-/// The members of the lists that declare predicates, functions or actions.
-fn lists_of<'t>(world: &World<'t>, kind: Kind) -> &'t [Tree] {
-    match kind {
-        Kind::Predicate => section_of(&world.domain, ":predicates"),
-        Kind::Function => section_of(&world.domain, ":functions"),
-        _ => items_of(world.domain.tree),
+/// The name and the parameters of a predicate, a function or an action, as they are written.
+fn signature_of<'t>(kind: Kind, items: &'t [Tree]) -> Option<(&'t Tree, &'t [Tree])> {
+    if kind != Kind::Action {
+        return Some((items.first()?, items.get(1..)?));
     }
-}
-
-/// The name and the parameters of a predicate, a function or an action.
-fn parameters_in<'t>(
-    alloc: Global,
-    kind: Kind,
-    items: &'t [Tree],
-) -> Result<Option<(&'t Tree, Vec<Declared<'t>>)>, AllocError> {
-    if kind == Kind::Action {
-        if !is_action(items) {
-            return Ok(None);
-        }
-        let parameters = parameters_of(alloc, items)?;
-        return match items.get(1) {
-            Some(name) => Ok(Some((name, parameters))),
-            None => Ok(None),
-        };
-    }
-    let parameters = typed_items(alloc, items.get(1..).unwrap_or(&[]), false)?;
-    match items.first() {
-        Some(name) => Ok(Some((name, parameters))),
-        None => Ok(None),
+    if is_action(items) {
+        Some((items.get(1)?, parameters_in(items)))
+    } else {
+        None
     }
 }
 
 /// The counts of a predicate, a function or an action.
 fn counts_of<'t>(
     alloc: Global,
-    kind: Kind,
-    items: &'t [Tree],
+    name: &'t Tree,
+    parameters: &'t [Tree],
     types: &Types<'t>,
     rows: &[Row<'t>],
-) -> Result<Option<Counted<'t>>, AllocError> {
-    let Some((name, parameters)) = parameters_in(alloc, kind, items)? else {
-        return Ok(None);
-    };
-    let counts = counts_for(alloc, types, rows, parameters.as_slice())?;
-    Ok(Some(Counted {
-        name: word_of(name).unwrap_or(""),
-        at: place_of(name),
+) -> Result<Counted<'t>, AllocError> {
+    let mut counts = Vec::new(alloc);
+    for parameter in &typed_items(alloc, parameters, false)? {
+        counts.push(count_for(types, rows, parameter))?;
+    }
+    Ok(Counted {
+        name: name.word(),
+        at: name.place(),
         counts,
-    }))
+    })
 }
 
 /// What has the most bindings, the first of several.
@@ -142,11 +105,16 @@ fn most_of<'t>(
     let types = Types::new(alloc, world)?;
     let objects = declarations_of(alloc, world, Kind::Object)?;
     let rows = rows_of(alloc, objects.as_slice())?;
+    let lists = match kind {
+        Kind::Predicate => section_of(&world.domain, ":predicates"),
+        Kind::Function => section_of(&world.domain, ":functions"),
+        _ => world.domain.tree.items(),
+    };
     let mut most = None;
     let mut many = 0u64;
-    for tree in lists_of(world, kind) {
-        let found = counts_of(alloc, kind, items_of(tree), &types, rows.as_slice())?;
-        if let Some(found) = found {
+    for tree in lists {
+        if let Some((name, parameters)) = signature_of(kind, tree.items()) {
+            let found = counts_of(alloc, name, parameters, &types, rows.as_slice())?;
             let count = product(found.counts.as_slice());
             if count > many {
                 many = count;
@@ -157,63 +125,37 @@ fn most_of<'t>(
     Ok(most)
 }
 
-/// Puts how many bindings something has.
-fn put_bindings(page: &mut Page, most: &Counted<'_>) {
-    page.put("note: ");
-    page.put_code(most.name);
-    page.put(" alone may have ");
-    page.put_number(product(most.counts.as_slice()));
-    for (number, count) in most.counts.iter().enumerate() {
-        page.put(if number == 0 { " (" } else { " x " });
-        page.put_number(*count);
-    }
-    page.put(if most.counts.is_empty() { "" } else { ")" });
-    page.end_line();
-}
-
 /// Puts what there are too many of.
-fn put_most<'t>(page: &mut Page, world: &World<'t>, most: &Counted<'t>, what: &str) {
-    put_error_at(page, world.domain.source, most.at);
-    page.put("the task has more than 65535 ");
-    page.put(what);
-    end_headline(page, world.domain.source, most.at);
-    put_bindings(page, most);
-    page.put("help: fewer parameters, or narrower types");
-    page.end_line();
+fn put_most(page: &mut Page, source: Source<'_>, most: &Counted<'_>, what: &str) {
+    error_at!(page, source, most.at; "the task has more than 65535 {what}");
+    put!(page; "note: `{}` alone may have {}", most.name, product(most.counts.as_slice()));
+    for (number, count) in most.counts.iter().enumerate() {
+        put!(page; "{}{count}", if number == 0 { " (" } else { " x " });
+    }
+    page.put(if most.counts.is_empty() { "\n" } else { ")\n" });
+    page.put("help: fewer parameters, or narrower types\n");
 }
 
 /// The most objects of a task.
 const MOST_OBJECTS: usize = 65_535;
 
-/// Puts that there are too many objects, at the first of those.
-fn put_objects<'t>(page: &mut Page, world: &World<'t>, objects: &[Declared<'t>]) {
-    if let Some(object) = objects.get(MOST_OBJECTS) {
-        let source = world.source_of(object);
-        put_error_at(page, source, object.at);
-        page.put("the task has more than 65535 objects");
-        end_headline(page, source, object.at);
-    }
-}
-
 /// Puts why a task has too many objects, atoms, fluents or actions.
-pub fn put_too_many<'t>(
-    alloc: Global,
-    page: &mut Page,
-    world: &World<'t>,
-    what: &str,
-) -> Result<(), AllocError> {
+pub fn put_too_many(page: &mut Page, world: &World<'_>, what: &str) -> Result<(), AllocError> {
     let (kind, words) = match what.as_bytes() {
         b"atoms" => (Kind::Predicate, "atoms"),
         b"fluents" => (Kind::Function, "fluents"),
         b"actions" => (Kind::Action, "ground actions"),
         _ => {
-            let objects = declarations_of(alloc, world, Kind::Object)?;
-            put_objects(page, world, objects.as_slice());
+            let objects = declarations_of(page.alloc(), world, Kind::Object)?;
+            if let Some(object) = objects.get(MOST_OBJECTS) {
+                let source = world.source_of(object);
+                error_at!(page, source, object.at; "the task has more than 65535 objects");
+            }
             return Ok(());
         }
     };
-    if let Some(most) = most_of(alloc, world, kind)? {
-        put_most(page, world, &most, words);
+    if let Some(most) = most_of(page.alloc(), world, kind)? {
+        put_most(page, world.domain.source, &most, words);
     }
     Ok(())
 }
@@ -222,58 +164,50 @@ pub fn put_too_many<'t>(
 const GREATEST: u64 = 1_000_000_000_000_000;
 
 /// The first word of a tree that is a number past the greatest one.
-fn first_great<'t>(tree: &'t Tree) -> Option<&'t Word> {
-    match tree {
-        Tree::Word(token) => match read_whole(token.text.as_str()) {
-            Some(number) if number.unsigned_abs() > GREATEST => Some(token),
-            _ => None,
-        },
-        Tree::List { items, .. } => {
-            for item in items {
-                if let Some(token) = first_great(item) {
-                    return Some(token);
-                }
-            }
+fn first_great<'t>(tree: &'t Tree) -> Option<&'t Tree> {
+    if !tree.is_list() {
+        let number = read_whole(tree.word())?;
+        return if number.unsigned_abs() > GREATEST {
+            Some(tree)
+        } else {
             None
-        }
-    }
-}
-
-/// The first number that is too great in the sections of a text; `:metric` and `:length` are read
-/// over.
-fn first_in<'t>(text: &Text<'t>) -> Option<&'t Word> {
-    for section in items_of(text.tree) {
-        let is_read_over = match items_of(section).first() {
-            Some(head) => is_the_word(head, ":metric") || is_the_word(head, ":length"),
-            None => true,
         };
-        if is_read_over {
-            continue;
-        }
-        if let Some(token) = first_great(section) {
-            return Some(token);
+    }
+    for item in tree.items() {
+        if let Some(word) = first_great(item) {
+            return Some(word);
         }
     }
     None
 }
 
-fn put_great(page: &mut Page, source: Source<'_>, token: &Word) {
-    let at = token.span.start as usize;
-    put_error_at(page, source, at);
-    page.put(token.text.as_str());
-    page.put(" is past 1000000000000000, the greatest number");
-    end_headline(page, source, at);
-    page.put("help: choose a greater unit");
-    page.end_line();
+/// The first number that is too great in the sections of a text; `:metric` and `:length` are read
+/// over.
+fn first_in<'t>(text: &Text<'t>) -> Option<&'t Tree> {
+    for section in text.tree.items() {
+        let Some(head) = section.items().first() else {
+            continue;
+        };
+        if !head.is(":metric") && !head.is(":length") {
+            if let Some(word) = first_great(section) {
+                return Some(word);
+            }
+        }
+    }
+    None
 }
 
 /// Puts the first number that is too great, of the domain before the problem.
-pub fn put_range<'t>(page: &mut Page, world: &World<'t>) {
-    if let Some(token) = first_in(&world.domain) {
-        put_great(page, world.domain.source, token);
-    } else if let Some(problem) = world.problem {
-        if let Some(token) = first_in(&problem) {
-            put_great(page, problem.source, token);
+pub fn put_range(page: &mut Page, world: &World<'_>) {
+    for text in [Some(world.domain), world.problem] {
+        let Some(text) = text else {
+            return;
+        };
+        if let Some(word) = first_in(&text) {
+            error_at!(page, text.source, word.place();
+                "{word} is past 1000000000000000, the greatest number");
+            page.put("help: choose a greater unit\n");
+            return;
         }
     }
 }

@@ -3,7 +3,7 @@
 use crate::actions::{action_named, is_durative};
 use crate::steps::{StepLine, Word};
 use tp_explain_syntax::World;
-use tp_explain_text::{Page, Source, end_headline, put_error_at, put_moment, put_units};
+use tp_explain_text::{Moment, Page, Source, Units, error_at, put};
 use tp_text::{Scale, read_ticks};
 
 /// The duration of a step of a durative action. That of another step is not looked at.
@@ -19,22 +19,11 @@ fn duration_of<'l>(world: &World<'_>, step: &StepLine<'l>) -> Option<Word<'l>> {
 
 /// Puts that a step of a durative action has no duration.
 pub fn put_no_duration(page: &mut Page, plan: Source<'_>, step: &StepLine<'_>) {
-    let Some(name) = step.words.first() else {
-        return;
-    };
-    put_error_at(page, plan, name.at);
-    page.put_code(name.text);
-    page.put(" is a durative action, and the step has no duration");
-    end_headline(page, plan, name.at);
-    page.put("help: write `[DURATION]` behind it, in units of time");
-    page.end_line();
-}
-
-/// A scale, as it is written.
-fn put_scale(page: &mut Page, scale: Scale) {
-    page.put("`--scale ");
-    page.put_number(u64::from(scale.ticks()));
-    page.put("`");
+    if let Some(name) = step.words.first() {
+        error_at!(page, plan, name.at; "`{}` is a durative action, and the step has no duration",
+            name.text);
+        page.put("help: write `[DURATION]` behind it, in units of time\n");
+    }
 }
 
 /// The least scale that is greater and under which a time is so many ticks.
@@ -63,27 +52,18 @@ fn is_too_great(word: &str, scale: Scale) -> bool {
 
 /// Puts that a time is no whole number of ticks.
 fn put_no_ticks(page: &mut Page, plan: Source<'_>, word: &Word<'_>, scale: Scale) {
-    put_error_at(page, plan, word.at);
-    page.put(word.text);
-    if is_too_great(word.text, scale) {
-        page.put(" is past 4294967295 ticks, the most that a time may have");
-        end_headline(page, plan, word.at);
+    let (text, ticks) = (word.text, scale.ticks());
+    if is_too_great(text, scale) {
+        error_at!(page, plan, word.at;
+            "{text} is past 4294967295 ticks, the most that a time may have");
         return;
     }
-    page.put(" is no whole number of ticks under ");
-    put_scale(page, scale);
-    end_headline(page, plan, word.at);
-    match better_scale(word.text, scale) {
-        Some(better) => {
-            page.put("help: ");
-            put_scale(page, better);
-            if better != Scale::Thousand {
-                page.put(", or a greater one");
-            }
-        }
-        None => page.put("note: 1000 ticks a unit is the greatest scale"),
+    error_at!(page, plan, word.at; "{text} is no whole number of ticks under `--scale {ticks}`");
+    match better_scale(text, scale) {
+        Some(Scale::Thousand) => page.put("help: `--scale 1000`\n"),
+        Some(better) => put!(page; "help: `--scale {}`, or a greater one\n", better.ticks()),
+        None => page.put("note: 1000 ticks a unit is the greatest scale\n"),
     }
-    page.end_line();
 }
 
 /// Puts which time of a step is no whole number of ticks.
@@ -123,34 +103,20 @@ pub fn put_horizon(
     let end = u64::from(begins).saturating_add(u64::from(lasts));
     let at = duration.map_or(step.time.at, |word| word.at);
     let ticks = scale.ticks();
-    put_error_at(page, plan, at);
-    page.put("the step ends at ");
-    put_moment(page, ticks, end);
-    page.put(", past the horizon ");
-    page.put_number(u64::from(horizon));
+    let moment = Moment(ticks, end);
     if ticks > 1 {
-        page.put(" (");
-        put_units(page, ticks, u64::from(horizon));
-        page.put(")");
-    }
-    end_headline(page, plan, at);
-    if ticks > 1 {
-        page.put("note: the horizon is in ticks, and a unit has ");
-        page.put_number(u64::from(ticks));
-        page.put(" of them under ");
-        put_scale(page, scale);
-        page.end_line();
-    }
-    if end <= GREATEST_HORIZON {
-        page.put("help: `--horizon ");
-        page.put_number(end);
-        page.put(if end < GREATEST_HORIZON {
-            "`, or a greater one"
-        } else {
-            "`"
-        });
+        error_at!(page, plan, at; "the step ends at {moment}, past the horizon {horizon} ({})",
+            Units(ticks, u64::from(horizon)));
+        put!(page; "note: the horizon is in ticks, and a unit has {ticks} of them");
+        put!(page; " under `--scale {ticks}`\n");
     } else {
-        page.put("note: 1000000000 is the greatest horizon");
+        error_at!(page, plan, at; "the step ends at {moment}, past the horizon {horizon}");
     }
-    page.end_line();
+    if end < GREATEST_HORIZON {
+        put!(page; "help: `--horizon {end}`, or a greater one\n");
+    } else if end == GREATEST_HORIZON {
+        put!(page; "help: `--horizon {end}`\n");
+    } else {
+        page.put("note: 1000000000 is the greatest horizon\n");
+    }
 }

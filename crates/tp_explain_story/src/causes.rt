@@ -2,11 +2,13 @@
 
 use crate::events::{Event, Part};
 use crate::interference::find_interference;
-use crate::leaves::{Leaf, Moment};
+use crate::leaves::Moment;
 use crate::mentions::{Mention, Scope};
 use crate::story::Story;
+use crate::texts::Deed;
+use crate::values::WIDEST;
 use std::alloc::AllocError;
-use tp_explain_text::Page;
+use tp_explain_text::{Cut, Page, put};
 
 /// A part of an invariant, as text, and what it mentions.
 #[derive(Drop)]
@@ -23,19 +25,13 @@ pub struct Causes<'a> {
     invariants: Vec<Vec<Kept>>,
 }
 
-/// A part of an invariant.
-fn kept_of<'a>(story: &Story<'a>, leaf: &Leaf<'a>) -> Result<Kept, AllocError> {
-    Ok(Kept {
-        text: story.text(leaf)?,
-        mentions: story.mentions(leaf, Scope::Bound)?,
-    })
-}
-
 /// The invariant of a step.
 fn invariant_of(story: &Story<'_>, step: usize) -> Result<Vec<Kept>, AllocError> {
     let mut all = Vec::new(story.alloc());
     for leaf in &story.conditions(step, Moment::All)? {
-        all.push(kept_of(story, leaf)?)?;
+        let text = story.text(leaf)?;
+        let mentions = story.mentions(leaf, Scope::Bound)?;
+        all.push(Kept { text, mentions })?;
     }
     Ok(all)
 }
@@ -147,7 +143,6 @@ impl<'a> Causes<'a> {
     pub(crate) fn put_interference(
         &self,
         page: &mut Page,
-        story: &Story<'a>,
         from: usize,
         to: usize,
     ) -> Result<(), AllocError> {
@@ -156,9 +151,8 @@ impl<'a> Causes<'a> {
         let (Some(one), Some(other)) = (first, second) else {
             return Ok(());
         };
-        if let Some(found) = find_interference(story.alloc(), one, other)? {
-            page.put(", as they interfere over ");
-            page.put(found.name.as_str());
+        if let Some(found) = find_interference(page.alloc(), one, other)? {
+            put!(page; ", as they interfere over {}", found.name.as_str());
         }
         Ok(())
     }
@@ -166,26 +160,8 @@ impl<'a> Causes<'a> {
     /// Puts which step's invariant asks for the order of two events.
     pub(crate) fn put_wanted(&self, page: &mut Page, story: &Story<'a>, from: usize, to: usize) {
         if let Some((step, text)) = self.wanted(from, to) {
-            page.put(", as ");
-            put_step(page, story, step);
-            page.put(" wants (over all ");
-            page.put_cut(text, 100);
-            page.put(")");
+            let text = Cut(text, WIDEST);
+            put!(page; ", as step {step} {} wants (over all {text})", Deed(story, step));
         }
     }
-}
-
-/// Puts a step with its action.
-fn put_step(page: &mut Page, story: &Story<'_>, step: usize) {
-    page.put("step ");
-    page.put_number(u64::try_from(step).unwrap_or(u64::MAX));
-    let mut is_first = true;
-    if let Some(it) = story.steps().get(step) {
-        for word in &it.words {
-            page.put(if is_first { " (" } else { " " });
-            is_first = false;
-            page.put(*word);
-        }
-    }
-    page.put(")");
 }

@@ -1,7 +1,7 @@
 //! Lines that are no command.
 
 use crate::lines::InputLine;
-use tp_explain_text::{Nearest, Page};
+use tp_explain_text::{Count, Nearest, Page, put};
 use tp_script::{next_word, read_event, read_moment, read_number};
 
 /// The words of commands, each with its form and how many words stand behind it.
@@ -74,61 +74,48 @@ fn first_misfit<'l>(command: &str, line: &'l [u8]) -> &'l [u8] {
     &[]
 }
 
-/// Puts what was found in place of a command's form.
-fn put_found(page: &mut Page, command: &str, line: &[u8], wanted: u64) {
+/// Puts what was wanted in place of a line, and what was found.
+fn put_expected(page: &mut Page, command: &str, form: &str, wanted: u64, line: &[u8]) {
+    put!(page; "expected `{form}`, found ");
     let found = count_words(line);
     if found == wanted {
-        page.put_code(text_of(first_misfit(command, line)));
-        return;
-    }
-    if found == 0 {
-        page.put("nothing");
+        put!(page; "`{}`\n", text_of(first_misfit(command, line)));
+    } else if found == 0 {
+        put!(page; "nothing behind `{command}`\n");
     } else {
-        page.put_count(found, "word", "words");
+        put!(page; "{} behind `{command}`\n", Count(found, "word", "words"));
     }
-    page.put(" behind ");
-    page.put_code(command);
 }
 
 /// Puts that no command has this name, and the nearest that there is.
-fn put_unknown(page: &mut Page, word: &[u8]) {
-    let text = text_of(word);
-    page.put("no command is named ");
-    page.put_code(text);
-    page.end_line();
-    let mut nearest = Nearest::to(text);
+fn put_unknown(page: &mut Page, word: &str) {
+    put!(page; "no command is named `{word}`\n");
+    let mut nearest = Nearest::to(page.alloc(), word);
+    let mut found = None;
     for (name, _, _) in &FORMS {
-        nearest.look_at(*name, None);
+        if nearest.finds(name) {
+            found = Some(*name);
+        }
     }
-    if let Some((name, _)) = nearest.found() {
-        page.put("help: did you mean ");
-        page.put_code(name);
-        page.put("?");
-        page.end_line();
+    if let Some(name) = found {
+        put!(page; "help: did you mean `{name}`?\n");
     }
 }
 
 /// Puts why a line is no command.
 pub(crate) fn put_no_command(page: &mut Page, line: &InputLine) {
-    if LONGEST < line.bytes.len() {
-        page.put("the line has ");
-        page.put_number(u64::try_from(line.bytes.len()).unwrap_or(u64::MAX));
-        page.put(" bytes, and at most 256 are read");
-        page.end_line();
+    let length = line.bytes.len();
+    if LONGEST < length {
+        put!(page; "the line has {length} bytes, and at most 256 are read\n");
         return;
     }
     let (word, rest) = next_word(line.words());
     let known = FORMS.iter().find(|form| form.0.as_bytes() == word);
-    if let Some((command, form, wanted)) = known {
-        page.put("expected ");
-        page.put_code(*form);
-        page.put(", found ");
-        put_found(page, *command, rest, *wanted);
-        page.end_line();
+    if let Some((command, form, wanted)) = known.copied() {
+        put_expected(page, command, form, wanted, rest);
     } else if word == b"lag".as_slice() {
-        page.put("lags stand before the first command");
-        page.end_line();
+        page.put("lags stand before the first command\n");
     } else {
-        put_unknown(page, word);
+        put_unknown(page, text_of(word));
     }
 }

@@ -1,12 +1,13 @@
 //! The edges of a conflict.
 
-use crate::bounds::{put_bound, put_own_bound};
-use crate::names::put_name;
+use crate::bounds::{Said, put_own_bound};
+use crate::names::Named;
 use crate::picture::Picture;
 use crate::refusals::Reasons;
 use std::alloc::AllocError;
+use std::fmt;
 use tp_bounds::Bound;
-use tp_explain_text::{Page, put_line_place, put_moment};
+use tp_explain_text::{Page, put};
 use tp_script::Command;
 
 /// An edge of a conflict.
@@ -102,15 +103,8 @@ pub fn names_own_bound(picture: &Picture, answer: &str) -> bool {
     })
 }
 
-/// Puts that an event happened, or has not happened yet.
-fn put_state(page: &mut Page, reasons: &Reasons<'_, '_>, event: u16, words: &str, moment: u32) {
-    put_name(page, reasons.names, event);
-    page.put(words);
-    put_moment(page, reasons.scale, u64::from(moment));
-}
-
-/// Puts a bound of an identifier.
-fn put_held(
+/// Puts what a bound of an identifier says, and why it is there where it is the plan's own.
+pub(crate) fn put_held(
     page: &mut Page,
     picture: &Picture,
     reasons: &Reasons<'_, '_>,
@@ -124,7 +118,7 @@ fn put_held(
             put_own_bound(page, reasons.names, story, causes, held.bound)
         }
         _ => {
-            put_bound(page, reasons.names, reasons.scale, held.bound);
+            page.put(Said(reasons.names, reasons.scale, held.bound));
             Ok(())
         }
     }
@@ -139,45 +133,42 @@ pub(crate) fn put_edge(
     edge: Edge,
 ) -> Result<(), AllocError> {
     if let Edge::Own(id) = edge {
-        if let Some(held) = picture.bound(id) {
-            if held.line > 0 {
-                put_line_place(page, "stdin", held.line, held.column);
-            }
+        if let Some((line, column)) = picture.bound(id).and_then(|held| held.place) {
+            put!(page; "stdin:{line}:{column}: ");
         }
     }
-    page.put("note: ");
-    page.put(word);
-    page.put(": ");
+    put!(page; "note: {word}: ");
+    let names = reasons.names;
     match edge {
         Edge::Own(id) => put_held(page, picture, reasons, id)?,
-        Edge::New(bound) => put_bound(page, reasons.names, reasons.scale, bound),
+        Edge::New(bound) => page.put(Said(names, reasons.scale, bound)),
         Edge::Past(event, moment, _) => {
-            put_state(page, reasons, event, " happened at ", moment);
+            put!(page; "{} happened at {}", Named(names, event), reasons.moment(moment));
         }
         Edge::Now(event, moment, lag) => {
-            put_state(
-                page,
-                reasons,
-                event,
-                " has not happened, and comes at ",
-                moment,
-            );
-            page.put(" or later");
-            put_lag(page, lag);
+            let moment = reasons.moment(moment);
+            let behind = Lag(lag);
+            put!(page; "{} has not happened, and comes at {moment} or later{behind}",
+                Named(names, event));
         }
         Edge::End(event) => {
-            let horizon = picture.horizon();
-            put_state(page, reasons, event, " comes by the horizon, ", horizon);
+            let horizon = reasons.moment(picture.horizon());
+            put!(page; "{} comes by the horizon, {horizon}", Named(names, event));
         }
     }
-    page.end_line();
+    page.put("\n");
     Ok(())
 }
 
-/// Puts that a lag counts.
-pub(crate) fn put_lag(page: &mut Page, lag: u32) {
-    if lag > 0 {
-        page.put(", now less its lag ");
-        page.put_number(u64::from(lag));
+/// That a lag counts, if there is one.
+#[derive(Clone, Copy)]
+pub(crate) struct Lag(pub(crate) u32);
+
+impl fmt::Display for Lag {
+    fn fmt<W: fmt::Write>(&self, f: &mut fmt::Formatter<W>) -> fmt::Result {
+        if self.0 == 0 {
+            return Ok(());
+        }
+        write!(f, ", now less its lag {}", self.0)
     }
 }

@@ -1,14 +1,15 @@
 //! The events of steps: what each does, wants and reads.
 
-use crate::forms::{Head, first_word, head_of, items_of, place_of, rest_of};
+use crate::forms::{Head, head_of_word};
 use crate::leaves::{Leaf, Moment, put_leaves};
 use crate::mentions::{Mention, Scope, Sort, put_mentions};
 use crate::plan::Step;
 use crate::printing::text_of;
-use crate::trees::Tree;
 use crate::typed::Binding;
 use crate::world::{Action, World};
 use std::alloc::AllocError;
+use std::fmt;
+use tp_explain_text::Tree;
 
 /// What an effect does.
 #[derive(Clone, Copy, Debug, PartialEq, Eq)]
@@ -48,6 +49,17 @@ pub struct Event {
     pub step: usize,
     pub moment: Moment,
     pub tick: u32,
+}
+
+/// As `the start of step 3`.
+impl fmt::Display for Event {
+    fn fmt<W: fmt::Write>(&self, f: &mut fmt::Formatter<W>) -> fmt::Result {
+        match self.moment {
+            Moment::Start => write!(f, "the start of step {}", self.step),
+            Moment::End => write!(f, "the end of step {}", self.step),
+            Moment::All | Moment::Only => write!(f, "step {}", self.step),
+        }
+    }
 }
 
 /// What an event does, wants in its condition, and reads on right sides and in a duration
@@ -110,7 +122,7 @@ fn target_of<'a>(leaf: &Leaf<'a>, verb: Verb) -> (Option<&'a Tree>, Option<&'a T
     if verb == Verb::Adds {
         return (Some(leaf.tree), None);
     }
-    match rest_of(leaf.tree) {
+    match leaf.tree.rest() {
         [target, right, ..] => (Some(target), Some(right)),
         [target] => (Some(target), None),
         [] => (None, None),
@@ -126,7 +138,7 @@ pub(crate) fn doings_of<'a>(
 ) -> Result<Vec<Doing<'a>>, AllocError> {
     let mut doings = Vec::new(world.alloc);
     for leaf in leaves_of(world, step, action.effect, moment)? {
-        let verb = verb_of(head_of(leaf.tree));
+        let verb = verb_of(head_of_word(leaf.tree.head()));
         let (target, right) = target_of(&leaf, verb);
         if let Some(target) = target {
             let name = text_of(target, world, &leaf.bindings)?;

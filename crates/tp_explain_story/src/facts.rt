@@ -1,19 +1,18 @@
 //! What holds, and who wrote it last.
 
 use crate::events::Verb;
-use crate::forms::{items_of, place_of, word_of};
 use crate::printing::text_of;
-use crate::trees::Tree;
 use crate::world::World;
 use std::alloc::{AllocError, Global};
 use std::collections::BTreeMap;
+use tp_explain_text::Tree;
 use tp_text::read_whole;
 
 /// Where a value is from.
 #[derive(Clone, Copy, Debug, PartialEq, Eq)]
 pub enum Origin {
     /// This place of `:init`.
-    Init(u32),
+    Init(usize),
     /// The event of this number, which did this.
     Event(usize, Verb),
 }
@@ -76,16 +75,16 @@ impl Facts {
 
     /// Takes a member of `:init` in.
     fn take<'a>(&mut self, world: &World<'a>, item: &'a Tree) -> Result<(), AllocError> {
-        let origin = Origin::Init(place_of(item));
-        match items_of(item) {
-            [first, fluent, number] if word_of(first) == "=" => {
-                let Some(value) = read_whole(word_of(number)) else {
+        let origin = Origin::Init(item.place());
+        match item.items() {
+            [first, fluent, number] if first.word() == "=" => {
+                let Some(value) = read_whole(number.word()) else {
                     return Ok(());
                 };
                 let name = text_of(fluent, world, &[])?;
                 self.set_first(name.as_str(), true, Fact { value, origin })
             }
-            [first, atom] if word_of(first) == "not" => {
+            [first, atom] if first.word() == "not" => {
                 let name = text_of(atom, world, &[])?;
                 self.set_first(name.as_str(), false, Fact { value: 0, origin })
             }

@@ -20,13 +20,13 @@ pub struct Interference {
     pub first_does: bool,
     pub verb: Verb,
     pub name: String,
-    pub place: u32,
+    pub place: usize,
     pub other: Other,
-    pub other_place: u32,
+    pub other_place: usize,
 }
 
 /// Where a name is mentioned.
-fn mentioned(mentions: &[Mention], name: &str, is_fluent: bool) -> Option<u32> {
+fn mentioned(mentions: &[Mention], name: &str, is_fluent: bool) -> Option<usize> {
     let found = mentions.iter().find(|mention| mention.is_fluent == is_fluent
         && mention.name.as_str() == name);
     Some(found?.place)
@@ -42,7 +42,7 @@ fn disagree(one: Verb, other: Verb) -> bool {
 }
 
 /// What an effect interferes with in an event, and where that stands.
-fn against(doing: &Doing, event: &Part) -> Option<(Other, u32)> {
+fn against(doing: &Doing, event: &Part) -> Option<(Other, usize)> {
     let name = doing.name.as_str();
     let is_fluent = doing.verb.is_numeric();
     if let Some(place) = mentioned(&event.wants, name, is_fluent) {

@@ -1,10 +1,10 @@
 //! The single conditions, effects and constraints of a composite one.
 
-use crate::forms::{Head, first_word, head_of_word, items_of, place_of, word_of};
-use crate::trees::Tree;
+use crate::forms::{Head, head_of_word};
 use crate::typed::Binding;
 use crate::world::World;
 use std::alloc::AllocError;
+use tp_explain_text::Tree;
 
 /// When something is wanted or done.
 #[derive(Clone, Copy, Debug, PartialEq, Eq)]
@@ -29,13 +29,13 @@ pub struct Leaf<'a> {
 
 impl Leaf<'_> {
     /// Where it begins in its text.
-    pub fn place(&self) -> u32 {
-        place_of(self.tree)
+    pub fn place(&self) -> usize {
+        self.tree.place()
     }
 
     /// The word that it begins with.
     pub fn head(&self) -> &str {
-        first_word(self.tree)
+        self.tree.head()
     }
 }
 
@@ -65,7 +65,7 @@ pub(crate) fn put_leaves<'a>(
     let [first, rest @ ..] = items.as_slice() else {
         return Ok(());
     };
-    match head_of_word(word_of(first)) {
+    match head_of_word(first.word()) {
         Head::And => {
             for part in rest {
                 put_leaves(part, world, moment, bindings, leaves)?;
@@ -76,7 +76,7 @@ pub(crate) fn put_leaves<'a>(
             let [variables, part, ..] = rest else {
                 return Ok(());
             };
-            let combos = world.each_binding(bindings, items_of(variables))?;
+            let combos = world.each_binding(bindings, variables.items())?;
             for combo in &combos {
                 put_leaves(part, world, moment, combo, leaves)?;
             }
@@ -86,7 +86,7 @@ pub(crate) fn put_leaves<'a>(
             let [when, part, ..] = rest else {
                 return Ok(());
             };
-            if is_at(head, word_of(when), moment) {
+            if is_at(head, when.word(), moment) {
                 put_leaves(part, world, Moment::Only, bindings, leaves)?;
             }
             Ok(())

@@ -3,7 +3,7 @@
 //! its place in its text and the names that stand there. By it the explanations of verdicts, bounds
 //! and runs.
 //!
-//! - `trees`, `forms`: parse trees that own their words; their lists and words
+//! - `forms`: what lists begin with, sections and fields
 //! - `typed`, `world`: typed lists, types and objects; what a domain and a problem declare
 //! - `leaves`: the single conditions, effects and constraints of a composite one, under each
 //!   binding of its variables
@@ -30,7 +30,7 @@
 //! - `causes`, `bounds`: why the network of a plan has a bound; bounds in words
 //! - `picture`, `windows`: events, bounds, lags, and what happened; least and greatest moments
 //! - `watch`: a run that is watched, answer by answer
-//! - `journals`, `lines`: the journal of a run that goes on; the lines that go in
+//! - `lines`: the lines that go in
 //! - `commands`, `edges`, `refusals`: lines that are no command; conflicts; commands refused
 //! - `reports`: what is to come, and why a run ends without a plan
 #![tactic(auto)]
@@ -46,7 +46,6 @@ mod events;
 mod facts;
 mod forms;
 mod interference;
-mod journals;
 mod leaves;
 mod lines;
 mod mentions;
@@ -58,7 +57,6 @@ mod refusals;
 mod reports;
 mod story;
 mod texts;
-mod trees;
 mod truth;
 mod typed;
 mod values;
@@ -68,9 +66,8 @@ mod windows;
 mod world;
 
 pub use bounds::tell_network;
-pub use names::{Names, put_named_event};
+pub use names::{Names, Numbered};
 pub use story::Story;
 pub use texts::Texts;
-pub use trees::{Tree, read_tree};
 pub use verdict::explain_verdict;
 pub use watch::{RunPlan, Watch};

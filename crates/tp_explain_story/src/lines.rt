@@ -10,7 +10,7 @@ pub struct Input {
     line: u64,
 }
 
-/// A line of the input: its bytes, its number, 0 of a line that is elsewhere, and from where to
+/// A line of the input: its bytes, its number, and from where to
 /// where it has words.
 #[derive(Drop)]
 pub struct InputLine {
@@ -21,27 +21,9 @@ pub struct InputLine {
 }
 
 impl InputLine {
-    /// A line that is not one of the input.
-    pub(crate) fn elsewhere(alloc: Global) -> InputLine {
-        InputLine {
-            bytes: Vec::new(alloc),
-            number: 0,
-            from: 0,
-            until: 0,
-        }
-    }
-
     /// Its bytes from its first word to its last.
     pub fn words(&self) -> &[u8] {
         self.bytes.get(self.from..self.until).unwrap_or(&[])
-    }
-
-    /// Its bytes without a carriage return at its end.
-    pub fn shown(&self) -> &[u8] {
-        match self.bytes.as_slice() {
-            [front @ .., b'\r'] => front,
-            all => all,
-        }
     }
 
     /// The column of its first word.

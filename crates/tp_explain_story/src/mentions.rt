@@ -1,17 +1,17 @@
 //! The atoms and fluents that a condition mentions.
 
-use crate::forms::{Head, head_of_word, is_term, items_of, place_of, word_of};
+use crate::forms::{Head, head_of_word, is_term};
 use crate::printing::text_of;
-use crate::trees::Tree;
 use crate::typed::Binding;
 use crate::world::World;
 use std::alloc::AllocError;
+use tp_explain_text::Tree;
 
 /// An atom or a fluent, and where it stands in its text.
 #[derive(Drop)]
 pub struct Mention {
     pub name: String,
-    pub place: u32,
+    pub place: usize,
     pub is_fluent: bool,
 }
 
@@ -85,7 +85,7 @@ fn put_name<'a>(
     if name.as_bytes().contains(&b'?') {
         return Ok(());
     }
-    let place = place_of(tree);
+    let place = tree.place();
     let is_fluent = sort == Sort::Expression;
     mentions.push(Mention {
         name,
@@ -110,7 +110,7 @@ pub(crate) fn put_mentions<'a>(
     let [first, rest @ ..] = items.as_slice() else {
         return Ok(());
     };
-    match shape_of(sort, head_of_word(word_of(first)), rest) {
+    match shape_of(sort, head_of_word(first.word()), rest) {
         Shape::Same => Ok(()),
         Shape::Name => put_name(tree, world, sort, bindings, mentions),
         Shape::Joined(inside) => {
@@ -123,7 +123,7 @@ pub(crate) fn put_mentions<'a>(
             let [variables, part, ..] = rest else {
                 return Ok(());
             };
-            let combos = combos_of(world, scope, bindings, items_of(variables))?;
+            let combos = combos_of(world, scope, bindings, variables.items())?;
             for combo in &combos {
                 put_mentions(part, world, sort, scope, combo, mentions)?;
             }

@@ -1,6 +1,6 @@
 //! Events, by the texts that a network has of them.
 
-use tp_explain_text::Page;
+use std::fmt;
 
 /// How the events of a network are named.
 #[derive(Clone, Copy)]
@@ -34,45 +34,52 @@ pub(crate) fn name_of<'n>(names: Names<'n>, event: u16) -> Option<Name<'n>> {
     })
 }
 
-/// Puts a step with its action.
-pub(crate) fn put_step_of(page: &mut Page, name: Name<'_>) {
-    page.put("step ");
-    page.put(name.step);
-    page.put(" ");
-    page.put(name.action);
-}
-
-/// Puts an event by its number.
-fn put_number(page: &mut Page, event: u16) {
-    page.put("event ");
-    page.put_number(u64::from(event));
-}
-
-/// Puts a plan's event, as `the start of step 0 (heat)`.
-fn put_moment_of(page: &mut Page, name: Name<'_>) {
-    if name.moment == "start" {
-        page.put("the start of ");
-    } else if name.moment == "end" {
-        page.put("the end of ");
-    }
-    put_step_of(page, name);
-}
-
-/// Puts an event, as `the start of step 0 (heat)` or `event 4`.
-pub fn put_name(page: &mut Page, names: Names<'_>, event: u16) {
-    match name_of(names, event) {
-        Some(name) => put_moment_of(page, name),
-        None => put_number(page, event),
+/// A step with its action, as `step 0 (heat)`.
+impl fmt::Display for Name<'_> {
+    fn fmt<W: fmt::Write>(&self, f: &mut fmt::Formatter<W>) -> fmt::Result {
+        write!(f, "step {} {}", self.step, self.action)
     }
 }
 
-/// Puts an event with its number, and what it is behind that, as `event 0, the start of step 0
+/// A plan's event, as `the start of step 0 (heat)`.
+#[derive(Clone, Copy)]
+struct Part<'n>(Name<'n>);
+
+impl fmt::Display for Part<'_> {
+    fn fmt<W: fmt::Write>(&self, f: &mut fmt::Formatter<W>) -> fmt::Result {
+        let name = self.0;
+        match name.moment {
+            "start" => write!(f, "the start of {name}"),
+            "end" => write!(f, "the end of {name}"),
+            _ => write!(f, "{name}"),
+        }
+    }
+}
+
+/// An event, as `the start of step 0 (heat)` or `event 4`.
+#[derive(Clone, Copy)]
+pub(crate) struct Named<'n>(pub(crate) Names<'n>, pub(crate) u16);
+
+impl fmt::Display for Named<'_> {
+    fn fmt<W: fmt::Write>(&self, f: &mut fmt::Formatter<W>) -> fmt::Result {
+        match name_of(self.0, self.1) {
+            Some(name) => write!(f, "{}", Part(name)),
+            None => write!(f, "event {}", self.1),
+        }
+    }
+}
+
+/// An event with its number, and what it is behind that, as `event 0, the start of step 0
 /// (heat),`.
-pub fn put_named_event(page: &mut Page, names: Names<'_>, event: u16, behind: &str) {
-    put_number(page, event);
-    if let Some(name) = name_of(names, event) {
-        page.put(", ");
-        put_moment_of(page, name);
-        page.put(behind);
+#[derive(Clone, Copy)]
+pub struct Numbered<'n>(pub Names<'n>, pub u16, pub &'static str);
+
+impl fmt::Display for Numbered<'_> {
+    fn fmt<W: fmt::Write>(&self, f: &mut fmt::Formatter<W>) -> fmt::Result {
+        let Numbered(names, event, behind) = *self;
+        match name_of(names, event) {
+            Some(name) => write!(f, "event {event}, {}{behind}", Part(name)),
+            None => write!(f, "event {event}"),
+        }
     }
 }

@@ -5,14 +5,13 @@ use std::alloc::{AllocError, Global};
 use tp_bounds::Bound;
 use tp_script::Command;
 
-/// A bound that was in force at some time, and the place of the command that added it: line 0 where
-/// that is none of the input.
+/// A bound that was in force at some time, and the line and the column of the command that added
+/// it.
 #[derive(Clone, Copy)]
 pub struct Held {
     pub bound: Bound,
     pub is_in_force: bool,
-    pub line: u64,
-    pub column: u64,
+    pub place: Option<(u64, u64)>,
 }
 
 /// An event: how late its report may come, and when it happened.
@@ -59,8 +58,7 @@ impl Picture {
             bounds.push(Held {
                 bound: *bound,
                 is_in_force: true,
-                line: 0,
-                column: 0,
+                place: None,
             })?;
         }
         Ok(Picture {
@@ -174,8 +172,7 @@ impl Picture {
             Command::Add(bound) => self.bounds.push(Held {
                 bound,
                 is_in_force: true,
-                line: line.number,
-                column: line.column(),
+                place: Some((line.number, line.column())),
             })?,
             Command::Withdraw(id) => self.withdraw(id.0, line),
             Command::Dispatch(event) => {

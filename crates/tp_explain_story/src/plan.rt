@@ -2,7 +2,7 @@
 
 use crate::world::World;
 use std::alloc::{AllocError, Global};
-use tp_text::{Scale, has_time_form, read_ticks};
+use tp_text::{Scale, read_ticks};
 
 /// A step: its action by number, its words in lower case, its ticks, and where its time, its
 /// action's name and its duration stand.
@@ -12,119 +12,75 @@ pub struct Step<'a> {
     pub words: Vec<&'a str>,
     pub tick: u32,
     pub duration: u32,
-    pub name_place: u32,
-    pub duration_place: u32,
+    pub name_place: usize,
+    pub duration_place: usize,
 }
 
-/// A word of a line, or a sign, and where it begins.
+/// A word of a line, and where it begins.
 #[derive(Clone, Copy)]
-struct Lexeme<'a> {
+struct Word<'a> {
     text: &'a str,
     place: usize,
 }
 
-/// Whether a byte is a word of its own.
-fn is_sign(b: u8) -> bool {
-    matches!(b, b':' | b'(' | b')' | b'[' | b']')
+/// Whether a letter stands between words.
+fn is_between(letter: char) -> bool {
+    letter <= ' ' || matches!(letter, ':' | '(' | ')' | '[' | ']')
 }
 
-/// Whether a byte stands between words.
-fn is_blank(b: u8) -> bool {
-    b <= b' '
-}
-
-/// Where the word that begins at a place ends.
-fn end_of(line: &[u8], start: usize) -> usize {
-    for (at, b) in line.iter().enumerate().skip(start) {
-        if is_sign(*b) {
-            return if at == start {
-                at.saturating_add(1)
-            } else {
-                at
-            };
+/// The words of a line up to its comment. `start` is where it begins in its text.
+fn words_of<'a>(alloc: Global, line: &'a str, start: usize) -> Result<Vec<Word<'a>>, AllocError> {
+    let mut words = Vec::new(alloc);
+    let (line, _) = line.split_once(';').unwrap_or((line, ""));
+    let mut place = 0usize;
+    for word in line.split(is_between) {
+        if !word.is_empty() {
+            let place = start.saturating_add(place);
+            words.push(Word { text: word, place })?;
         }
-        if is_blank(*b) || *b == b';' {
-            return at;
-        }
+        place = place.saturating_add(word.len()).saturating_add(1);
     }
-    line.len()
+    Ok(words)
 }
 
-/// The words and signs of a line up to its comment. `start` is where it begins in its text.
-fn lexemes_of<'a>(
-    alloc: Global,
-    line: &'a str,
-    start: usize,
-) -> Result<Vec<Lexeme<'a>>, AllocError> {
-    let mut lexemes = Vec::new(alloc);
-    let mut until = 0usize;
-    for (at, b) in line.as_bytes().iter().enumerate() {
-        if at < until || is_blank(*b) {
-            continue;
-        }
-        if *b == b';' {
-            break;
-        }
-        until = end_of(line.as_bytes(), at);
-        let text = line.get(at..until).unwrap_or("");
-        let place = start.saturating_add(at);
-        lexemes.push(Lexeme { text, place })?;
-    }
-    Ok(lexemes)
-}
-
-/// A place as a number of 32 bits.
-fn short(place: usize) -> u32 {
-    u32::try_from(place).unwrap_or(u32::MAX)
-}
-
-/// The ticks of a duration that is written in brackets, and its place. An action that does not last
-/// takes none.
-fn duration_of(rest: &[Lexeme], lasts: bool, scale: Scale, name: usize) -> (u32, usize) {
-    match rest {
-        [_, word, ..] if lasts => (read_ticks(word.text, scale).unwrap_or(0), word.place),
-        _ => (0, name),
-    }
-}
-
-/// The step that the words of a line spell, if they spell one.
+/// The step that the words of a line spell, if they spell one: its time, its action with as many
+/// objects as that has parameters, and behind them its duration.
 fn read_step<'a>(
     world: &World<'a>,
-    lexemes: &[Lexeme<'a>],
+    words: &[Word<'a>],
     scale: Scale,
 ) -> Result<Option<Step<'a>>, AllocError> {
-    let [time, _, _, inside @ ..] = lexemes else {
-        return Ok(None);
-    };
-    let [name, ..] = inside else {
+    let [time, name, ..] = words else {
         return Ok(None);
     };
     let found = world
         .actions
         .iter()
         .position(|action| action.name == name.text);
-    let (Some(action), true) = (found, has_time_form(time.text)) else {
+    let Some((number, action)) = found.and_then(|number| Some((number, world.actions.get(number)?)))
+    else {
         return Ok(None);
     };
-    let lasts = match world.actions.get(action) {
-        Some(action) => action.lasts,
-        None => false,
-    };
-    let close = inside.iter().position(|lexeme| lexeme.text == ")");
-    let count = close.unwrap_or(inside.len());
-    let mut words = Vec::new(world.alloc);
-    for lexeme in inside.iter().take(count) {
-        words.push(lexeme.text)?;
+    let count = action.parameters.len().saturating_add(1);
+    let mut own = Vec::new(world.alloc);
+    for word in words.iter().skip(1).take(count) {
+        own.push(word.text)?;
     }
-    let rest = inside.get(count.saturating_add(1)..).unwrap_or(&[]);
-    let (duration, place) = duration_of(rest, lasts, scale, name.place);
+    let last = match words.get(count.saturating_add(1)) {
+        Some(word) if action.lasts => word,
+        _ => name,
+    };
     Ok(Some(Step {
-        action,
-        words,
+        action: number,
+        words: own,
         tick: read_ticks(time.text, scale).unwrap_or(0),
-        duration,
-        name_place: short(name.place),
-        duration_place: short(place),
+        duration: if action.lasts {
+            read_ticks(last.text, scale).unwrap_or(0)
+        } else {
+            0
+        },
+        name_place: name.place,
+        duration_place: last.place,
     }))
 }
 
@@ -137,8 +93,8 @@ pub(crate) fn read_steps<'a>(
     let mut steps = Vec::new(world.alloc);
     let mut start = 0usize;
     for line in text.split('\n') {
-        let lexemes = lexemes_of(world.alloc, line, start)?;
-        if let Some(step) = read_step(world, &lexemes, scale)? {
+        let words = words_of(world.alloc, line, start)?;
+        if let Some(step) = read_step(world, &words, scale)? {
             steps.push(step)?;
         }
         start = start.saturating_add(line.len()).saturating_add(1);

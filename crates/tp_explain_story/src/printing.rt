@@ -1,10 +1,10 @@
 //! Conditions, effects and atoms as text, with objects filled in.
 
-use crate::forms::{Head, head_of_word, items_of, word_of};
-use crate::trees::Tree;
+use crate::forms::{Head, head_of_word};
 use crate::typed::Binding;
 use crate::world::World;
 use std::alloc::AllocError;
+use tp_explain_text::Tree;
 
 /// The object that is bound to a word, or the word.
 pub(crate) fn filled_in<'a>(word: &'a str, bindings: &[Binding<'a>]) -> &'a str {
@@ -43,13 +43,13 @@ pub(crate) fn put_tree<'a>(
     text: &mut String,
 ) -> Result<(), AllocError> {
     let items = match tree {
-        Tree::Word { .. } => return text.push_str(filled_in(word_of(tree), bindings)),
+        Tree::Word { .. } => return text.push_str(filled_in(tree.word(), bindings)),
         Tree::List { items, .. } => items.as_slice(),
     };
     text.push_str("(")?;
     if let [first, variables, ..] = items {
-        if let Head::Forall | Head::Exists = head_of_word(word_of(first)) {
-            let hidden = world.hidden(bindings, items_of(variables))?;
+        if let Head::Forall | Head::Exists = head_of_word(first.word()) {
+            let hidden = world.hidden(bindings, variables.items())?;
             return put_items(items, world, &hidden, text);
         }
     }

@@ -1,51 +1,26 @@
 //! What is to come, and why a run ends without a plan.
 
-use crate::bounds::{put_bound, put_own_bound};
+use crate::edges::put_held;
 use crate::lines::InputLine;
-use crate::names::put_named_event;
+use crate::names::Numbered;
 use crate::picture::Picture;
 use crate::refusals::Reasons;
 use crate::windows::Windows;
 use std::alloc::AllocError;
-use tp_explain_text::{Page, put_file, put_line_place, put_mark_of_line, put_moment, put_ticks};
+use tp_explain_text::{Count, Moment, Page, Ticks, put, put_mark_of_line, without_return};
 
 /// The most events that are told one by one.
 const MOST_EVENTS: usize = 6;
 
-/// The events that have not happened, in their order.
-fn events_left(picture: &Picture) -> Result<Vec<u16>, AllocError> {
-    let mut left = Vec::new(picture.alloc());
-    for event in 0..picture.events() {
-        if picture.fixed(event).is_none() {
-            left.push(event)?;
-        }
-    }
-    Ok(left)
-}
-
-/// The same by their deadlines.
-fn by_deadline(picture: &Picture, windows: &Windows) -> Result<Vec<(u64, u16)>, AllocError> {
+/// The events that have not happened, in their order, each behind its deadline.
+fn events_left(picture: &Picture, windows: &Windows) -> Result<Vec<(u64, u16)>, AllocError> {
     let mut left = Vec::new(picture.alloc());
     for event in 0..picture.events() {
         if picture.fixed(event).is_none() {
             left.push((windows.high(event), event))?;
         }
     }
-    left.sort_unstable();
     Ok(left)
-}
-
-/// Puts how far a deadline is from now.
-fn put_distance(page: &mut Page, picture: &Picture, scale: u32, deadline: u64) {
-    let now = u64::from(picture.now());
-    if deadline < now {
-        page.put(", ");
-        put_ticks(page, scale, now.saturating_sub(deadline));
-        page.put(" ago");
-    } else {
-        page.put(", in ");
-        put_ticks(page, scale, deadline.saturating_sub(now));
-    }
 }
 
 /// Puts the line of an event that is to come.
@@ -57,38 +32,28 @@ fn put_due(
     low: u64,
     high: u64,
 ) {
-    page.put(if low == high {
-        "note: at "
+    let (scale, now) = (reasons.scale, u64::from(picture.now()));
+    let distance = Ticks(scale, high.abs_diff(now));
+    put!(page; "note: {} {}, ", if low == high { "at" } else { "by" }, Moment(scale, high));
+    if high < now {
+        put!(page; "{distance} ago");
     } else {
-        "note: by "
-    });
-    put_moment(page, reasons.scale, high);
-    put_distance(page, picture, reasons.scale, high);
-    page.put(": ");
-    put_named_event(page, reasons.names, event, "");
-    if low < high {
-        if low == u64::from(picture.now()) {
-            page.put(", from now on");
-        } else {
-            page.put(", from ");
-            put_moment(page, reasons.scale, low);
-            page.put(" on");
-        }
+        put!(page; "in {distance}");
     }
-    page.end_line();
+    put!(page; ": {}", Numbered(reasons.names, event, ""));
+    if low < high && low == now {
+        page.put(", from now on");
+    } else if low < high {
+        put!(page; ", from {} on", Moment(scale, low));
+    }
+    page.put("\n");
 }
 
 /// Puts how many more events there are than are told.
 fn put_more(page: &mut Page, count: usize) {
     let more = count.saturating_sub(MOST_EVENTS);
     if more > 0 {
-        page.put("note: and ");
-        page.put_count(
-            u64::try_from(more).unwrap_or(u64::MAX),
-            "more event",
-            "more events",
-        );
-        page.end_line();
+        put!(page; "note: and {}\n", Count(more as u64, "more event", "more events"));
     }
 }
 
@@ -100,22 +65,18 @@ pub fn tell_report(
     line: &InputLine,
 ) -> Result<(), AllocError> {
     let windows = Windows::of(picture)?;
-    let left = by_deadline(picture, &windows)?;
-    put_line_place(page, "stdin", line.number, line.column());
-    page.put("report: now is ");
-    put_moment(page, reasons.scale, u64::from(picture.now()));
+    let mut left = events_left(picture, &windows)?;
+    left.sort_unstable();
+    let now = reasons.moment(picture.now());
+    put!(page; "stdin:{}:{}: report: now is {now}, and ", line.number, line.column());
     if left.is_empty() {
-        page.put(", and no event is to come");
-        page.end_line();
+        page.put("no event is to come\n");
         return Ok(());
     }
-    page.put(", and ");
-    page.put_count(picture.left(), "event is", "events are");
-    page.put(" to come, the next deadline first");
-    page.end_line();
+    let count = Count(picture.left(), "event is", "events are");
+    put!(page; "{count} to come, the next deadline first\n");
     for (high, event) in left.iter().take(MOST_EVENTS) {
-        let low = windows.low(*event);
-        put_due(page, picture, reasons, *event, low, *high);
+        put_due(page, picture, reasons, *event, windows.low(*event), *high);
     }
     put_more(page, left.len());
     Ok(())
@@ -123,27 +84,8 @@ pub fn tell_report(
 
 /// Puts how many events have not happened.
 fn put_left(page: &mut Page, picture: &Picture) {
-    page.put_number(picture.left());
-    page.put(" of ");
-    page.put_count(u64::from(picture.events()), "event has", "events have");
-    page.put(" not happened");
-    page.end_line();
-}
-
-/// Puts when an event may happen.
-fn put_chance(page: &mut Page, reasons: &Reasons<'_, '_>, event: u16, low: u64, high: u64) {
-    page.put("note: ");
-    put_named_event(page, reasons.names, event, ",");
-    if low == high {
-        page.put(" may happen at ");
-        put_moment(page, reasons.scale, low);
-    } else {
-        page.put(" may happen from ");
-        put_moment(page, reasons.scale, low);
-        page.put(" to ");
-        put_moment(page, reasons.scale, high);
-    }
-    page.end_line();
+    let all = Count(u64::from(picture.events()), "event has", "events have");
+    put!(page; "{} of {all} not happened\n", picture.left());
 }
 
 /// Puts that events have not happened, and when they may.
@@ -153,55 +95,25 @@ fn tell_left(
     reasons: &Reasons<'_, '_>,
 ) -> Result<(), AllocError> {
     let windows = Windows::of(picture)?;
-    let left = events_left(picture)?;
+    let left = events_left(picture, &windows)?;
     page.put("stdin: no plan: ");
     put_left(page, picture);
-    for event in left.iter().take(MOST_EVENTS) {
+    for (high, event) in left.iter().take(MOST_EVENTS) {
+        let named = Numbered(reasons.names, *event, ",");
         let low = windows.low(*event);
-        put_chance(page, reasons, *event, low, windows.high(*event));
+        let first = Moment(reasons.scale, low);
+        if low == *high {
+            put!(page; "note: {named} may happen at {first}\n");
+        } else {
+            put!(page; "note: {named} may happen from {first} to {}\n",
+                Moment(reasons.scale, *high));
+        }
     }
     put_more(page, left.len());
     Ok(())
 }
 
-/// Puts what a bound of the plan says.
-fn put_own(
-    page: &mut Page,
-    picture: &Picture,
-    reasons: &Reasons<'_, '_>,
-    id: u32,
-) -> Result<(), AllocError> {
-    let Some(held) = picture.bound(id) else {
-        return Ok(());
-    };
-    match (reasons.story, reasons.causes) {
-        (Some(story), Some(causes)) => {
-            put_own_bound(page, reasons.names, story, causes, held.bound)
-        }
-        _ => {
-            put_bound(page, reasons.names, reasons.scale, held.bound);
-            Ok(())
-        }
-    }
-}
-
-/// Puts by which command a bound of the plan was withdrawn.
-fn put_withdrawal(page: &mut Page, line: &InputLine, id: u32) {
-    if line.number > 0 {
-        put_line_place(page, "stdin", line.number, line.column());
-    } else {
-        put_file(page, "stdin");
-    }
-    page.put("no plan: bound ");
-    page.put_number(u64::from(id));
-    page.put(" of the plan was withdrawn");
-    page.end_line();
-    if line.number > 0 {
-        put_mark_of_line(page, line.shown(), line.from);
-    }
-}
-
-/// Puts that a bound of the plan was withdrawn.
+/// Puts that a bound of the plan was withdrawn, and by which command.
 fn tell_withdrawn(
     page: &mut Page,
     picture: &Picture,
@@ -209,14 +121,12 @@ fn tell_withdrawn(
     line: &InputLine,
     id: u32,
 ) -> Result<(), AllocError> {
-    put_withdrawal(page, line, id);
-    page.put("note: b");
-    page.put_number(u64::from(id));
-    page.put(": ");
-    put_own(page, picture, reasons, id)?;
-    page.end_line();
-    page.put("note: an equal bound that is added does not bring the plan back");
-    page.end_line();
+    let (number, column) = (line.number, line.column());
+    put!(page; "stdin:{number}:{column}: no plan: bound {id} of the plan was withdrawn\n");
+    put_mark_of_line(page, without_return(line.bytes.as_slice()), line.from);
+    put!(page; "note: b{id}: ");
+    put_held(page, picture, reasons, id)?;
+    page.put("\nnote: an equal bound that is added does not bring the plan back\n");
     if picture.left() > 0 {
         page.put("note: and ");
         put_left(page, picture);

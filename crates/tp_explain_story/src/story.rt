@@ -2,15 +2,15 @@
 
 use crate::events::{Doing, Event, Part, Verb, doings_of, leaves_of, part_of};
 use crate::facts::{Fact, Facts, Origin};
-use crate::forms::rest_of;
 use crate::leaves::{Leaf, Moment, put_leaves};
 use crate::mentions::{Mention, Scope, Sort, put_mentions};
 use crate::plan::{Step, read_steps};
 use crate::printing::text_of;
-use crate::trees::Tree;
+use crate::texts::Texts;
 use crate::truth::{compared, truth_of, value_of};
 use crate::world::{Action, World};
 use std::alloc::{AllocError, Global};
+use tp_explain_text::Tree;
 use tp_text::Scale;
 
 /// A domain, a problem and a plan, in lower case.
@@ -19,7 +19,7 @@ pub struct Story<'a> {
     world: World<'a>,
     steps: Vec<Step<'a>>,
     events: Vec<Event>,
-    scale: Scale,
+    texts: Texts<'a>,
 }
 
 /// The events of steps, by rising number.
@@ -65,16 +65,16 @@ impl<'a> Story<'a> {
         domain: &'a Tree,
         problem: &'a Tree,
         plan: &'a str,
-        scale: Scale,
+        texts: Texts<'a>,
     ) -> Result<Story<'a>, AllocError> {
         let world = World::new(alloc, domain, problem)?;
-        let steps = read_steps(&world, plan, scale)?;
+        let steps = read_steps(&world, plan, texts.scale)?;
         let events = events_of(&world, &steps)?;
         Ok(Story {
             world,
             steps,
             events,
-            scale,
+            texts,
         })
     }
 
@@ -90,7 +90,22 @@ impl<'a> Story<'a> {
 
     /// The ticks of a unit.
     pub fn scale(&self) -> Scale {
-        self.scale
+        self.texts.scale
+    }
+
+    /// The files that are told of.
+    pub(crate) fn texts(&self) -> &Texts<'a> {
+        &self.texts
+    }
+
+    /// Where a step's action stands in the plan.
+    pub(crate) fn step_place(&self, step: usize) -> usize {
+        self.steps.get(step).map_or(0, |it| it.name_place)
+    }
+
+    /// Where a step's duration stands in the plan.
+    pub(crate) fn duration_place(&self, step: usize) -> usize {
+        self.steps.get(step).map_or(0, |it| it.duration_place)
     }
 
     /// Where memory comes from.
@@ -194,7 +209,7 @@ impl<'a> Story<'a> {
     /// What an effect reads: its right side, and what it changes, unless it assigns.
     pub fn effect_reads(&self, doing: &Doing<'a>) -> Result<Vec<Mention>, AllocError> {
         let mut mentions = Vec::new(self.world.alloc);
-        let [target, right, ..] = rest_of(doing.leaf.tree) else {
+        let [target, right, ..] = doing.leaf.tree.rest() else {
             return Ok(mentions);
         };
         if !doing.verb.is_numeric() {
@@ -223,7 +238,7 @@ impl<'a> Story<'a> {
 
     /// The value with which a duration constraint compares `?duration`.
     pub fn limit(&self, leaf: &Leaf<'a>, facts: &Facts) -> Result<Option<i64>, AllocError> {
-        match rest_of(leaf.tree) {
+        match leaf.tree.rest() {
             [_, limit, ..] => value_of(limit, &self.world, &leaf.bindings, facts, None),
             _ => Ok(None),
         }
@@ -232,7 +247,7 @@ impl<'a> Story<'a> {
     /// How many units a step lasts, where these are whole.
     pub fn units(&self, step: usize) -> Option<i64> {
         let it = self.steps.get(step)?;
-        let scale = self.scale.ticks();
+        let scale = self.scale().ticks();
         if it.duration.checked_rem(scale)? == 0 {
             Some(i64::from(it.duration.checked_div(scale)?))
         } else {

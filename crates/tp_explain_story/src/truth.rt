@@ -1,12 +1,12 @@
 //! Values of expressions and conditions.
 
 use crate::facts::Facts;
-use crate::forms::{Head, head_of_word, is_term, items_of, word_of};
+use crate::forms::{Head, head_of_word, is_term};
 use crate::printing::{filled_in, text_of};
-use crate::trees::Tree;
 use crate::typed::Binding;
 use crate::world::World;
 use std::alloc::AllocError;
+use tp_explain_text::Tree;
 use tp_text::read_whole;
 
 /// The value of an operator.
@@ -37,13 +37,13 @@ pub(crate) fn value_of<'a>(
     duration: Option<i64>,
 ) -> Result<Option<i64>, AllocError> {
     let items = match tree {
-        Tree::Word { .. } => return Ok(value_of_word(word_of(tree), duration)),
+        Tree::Word { .. } => return Ok(value_of_word(tree.word(), duration)),
         Tree::List { items, .. } => items.as_slice(),
     };
     let [first, rest @ ..] = items else {
         return Ok(None);
     };
-    let head = head_of_word(word_of(first));
+    let head = head_of_word(first.word());
     match (head, rest) {
         (Head::Minus, [only]) => match value_of(only, world, bindings, facts, duration)? {
             Some(value) => Ok(value.checked_neg()),
@@ -83,10 +83,10 @@ pub(crate) fn compared<'a>(
     bindings: &[Binding<'a>],
     facts: &Facts,
 ) -> Result<Option<(i64, i64)>, AllocError> {
-    let [first, left, right] = items_of(tree) else {
+    let [first, left, right] = tree.items() else {
         return Ok(None);
     };
-    match head_of_word(word_of(first)) {
+    match head_of_word(first.word()) {
         Head::Equal if is_term(left) && is_term(right) => return Ok(None),
         Head::Equal | Head::Less | Head::AtMost | Head::AtLeast | Head::Greater => {}
         _ => return Ok(None),
@@ -107,10 +107,10 @@ fn simple_truth<'a>(
     bindings: &[Binding<'a>],
     facts: &Facts,
 ) -> Result<Option<bool>, AllocError> {
-    match (head, items_of(tree)) {
+    match (head, tree.items()) {
         (Head::Equal, [_, left, right]) if is_term(left) && is_term(right) => {
-            let a = filled_in(word_of(left), bindings);
-            Ok(Some(a == filled_in(word_of(right), bindings)))
+            let a = filled_in(left.word(), bindings);
+            Ok(Some(a == filled_in(right.word(), bindings)))
         }
         (Head::Equal | Head::Less | Head::AtMost | Head::AtLeast | Head::Greater, _) => {
             match compared(tree, world, bindings, facts)? {
@@ -190,7 +190,7 @@ pub(crate) fn truth_of<'a>(
     let [first, rest @ ..] = items.as_slice() else {
         return Ok(Some(true));
     };
-    let head = head_of_word(word_of(first));
+    let head = head_of_word(first.word());
     let mut tally = Tally::new();
     match head {
         Head::And | Head::Or | Head::Not | Head::Imply => {
@@ -203,7 +203,7 @@ pub(crate) fn truth_of<'a>(
             let [variables, part, ..] = rest else {
                 return Ok(None);
             };
-            let combos = world.each_binding(bindings, items_of(variables))?;
+            let combos = world.each_binding(bindings, variables.items())?;
             for combo in &combos {
                 tally = tally.note(truth_of(part, world, combo, facts)?);
             }

@@ -1,8 +1,7 @@
 //! Typed lists, types and objects.
 
-use crate::forms::{items_of, rest_of, word_of};
-use crate::trees::Tree;
 use std::alloc::{AllocError, Global};
+use tp_explain_text::Tree;
 
 /// A name of a typed list, with its type or types, if these are written.
 #[derive(Clone, Copy)]
@@ -38,10 +37,10 @@ pub(crate) fn read_typed<'a>(
             set_kind(&mut names, from, item);
             from = names.len();
             is_kind = false;
-        } else if word_of(item) == "-" {
+        } else if item.word() == "-" {
             is_kind = true;
         } else {
-            let name = word_of(item);
+            let name = item.word();
             names.push(Typed { name, kind: None })?;
         }
     }
@@ -60,7 +59,7 @@ pub(crate) fn is_below(types: &[Typed], kind: &str, wanted: &str) -> bool {
         }
         match types.iter().find(|typed| typed.name == at) {
             Some(typed) => match typed.kind {
-                Some(parent) => at = word_of(parent),
+                Some(parent) => at = parent.word(),
                 None => return false,
             },
             None => return false,
@@ -75,14 +74,14 @@ pub(crate) fn fits<'a>(types: &[Typed<'a>], object: Typed<'a>, wanted: Option<&'
         return true;
     };
     let kind = match object.kind {
-        Some(kind) => word_of(kind),
+        Some(kind) => kind.word(),
         None => "object",
     };
-    if items_of(wanted).is_empty() {
-        return is_below(types, kind, word_of(wanted));
+    if wanted.items().is_empty() {
+        return is_below(types, kind, wanted.word());
     }
-    for choice in rest_of(wanted) {
-        if is_below(types, kind, word_of(choice)) {
+    for choice in wanted.rest() {
+        if is_below(types, kind, choice.word()) {
             return true;
         }
     }

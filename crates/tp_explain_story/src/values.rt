@@ -5,45 +5,28 @@ use crate::facts::{Fact, Facts, Origin};
 use crate::leaves::{Leaf, Moment};
 use crate::mentions::{Mention, Scope};
 use crate::story::Story;
-use crate::texts::{Texts, index, number, put_at, put_event_with_action, put_tick, step_place};
+use crate::texts::Deed;
 use std::alloc::AllocError;
-use tp_explain_text::Page;
+use std::fmt;
+use tp_explain_text::{At, Count, Cut, Page, put};
 
 /// The most characters of a condition that are shown.
-const WIDEST: usize = 100;
+pub(crate) const WIDEST: usize = 100;
 
-/// Puts a condition with the moment at which it is wanted round it.
-pub(crate) fn put_condition<'a>(
-    page: &mut Page,
+/// A condition with the moment at which it is wanted round it.
+fn condition_text<'a>(
     story: &Story<'a>,
     leaf: &Leaf<'a>,
     moment: Moment,
-) -> Result<(), AllocError> {
+) -> Result<String, AllocError> {
+    let text = story.text(leaf)?;
     let before = match moment {
-        Moment::Start => "(at start ",
-        Moment::All => "(over all ",
-        Moment::End => "(at end ",
-        Moment::Only => "",
+        Moment::Start => "at start",
+        Moment::All => "over all",
+        Moment::End => "at end",
+        Moment::Only => return Ok(text),
     };
-    let mut text = String::from_str(story.alloc(), before)?;
-    text.push_str(story.text(leaf)?.as_str())?;
-    if !before.is_empty() {
-        text.push_str(")")?;
-    }
-    page.put_cut(text.as_str(), WIDEST);
-    Ok(())
-}
-
-/// Puts the bindings of variables that were gone through.
-fn put_bindings(page: &mut Page, leaf: &Leaf<'_>, own: usize) {
-    let mut is_first = true;
-    for binding in leaf.bindings.iter().skip(own) {
-        page.put(if is_first { ", with " } else { ", " });
-        is_first = false;
-        page.put(binding.variable);
-        page.put(" = ");
-        page.put(binding.object);
-    }
+    format!(in story.alloc(); "({before} {text})")
 }
 
 /// Puts what a condition of a step wants that does not hold. `own` is how many of its bindings are
@@ -56,67 +39,58 @@ pub(crate) fn put_wanted<'a>(
     own: usize,
     facts: &Facts,
 ) -> Result<(), AllocError> {
-    page.put("note: it wants ");
-    put_condition(page, story, leaf, moment)?;
+    let text = condition_text(story, leaf, moment)?;
+    put!(page; "note: it wants {}", Cut(text.as_str(), WIDEST));
     if let Some((a, b)) = story.compared(leaf, facts)? {
-        page.put(", which is ");
-        page.put_signed(a);
-        page.put(" ");
-        page.put(leaf.head());
-        page.put(" ");
-        page.put_signed(b);
+        put!(page; ", which is {a} {} {b}", leaf.head());
     }
-    put_bindings(page, leaf, own);
-    page.end_line();
+    let mut before = ", with ";
+    for binding in leaf.bindings.iter().skip(own) {
+        put!(page; "{before}{} = {}", binding.variable, binding.object);
+        before = ", ";
+    }
+    page.put("\n");
     Ok(())
 }
 
-/// What wrote a value does, in the past.
-fn done(verb: Verb) -> &'static str {
-    match verb {
-        Verb::Adds => "added",
-        Verb::Deletes => "deleted",
-        _ => "changed",
-    }
-}
+/// An atom or a fluent, with its value.
+#[derive(Clone, Copy)]
+struct Valued<'m>(&'m Mention, i64);
 
-/// Puts the value of an atom or a fluent.
-fn put_value(page: &mut Page, mention: &Mention, value: i64) {
-    page.put("note: ");
-    page.put(mention.name.as_str());
-    if mention.is_fluent {
-        page.put(" = ");
-        page.put_signed(value);
-    } else if value != 0 {
-        page.put(" is true");
-    } else {
-        page.put(" is false");
+impl fmt::Display for Valued<'_> {
+    fn fmt<W: fmt::Write>(&self, f: &mut fmt::Formatter<W>) -> fmt::Result {
+        let Valued(mention, value) = *self;
+        let name = mention.name.as_str();
+        if mention.is_fluent {
+            write!(f, "{name} = {value}")
+        } else {
+            write!(f, "{name} is {}", value != 0)
+        }
     }
 }
 
 /// Puts the value of an atom or a fluent, and who wrote it last.
-fn put_fact(page: &mut Page, texts: &Texts<'_>, story: &Story<'_>, mention: &Mention, fact: Fact) {
+fn put_fact(page: &mut Page, story: &Story<'_>, mention: &Mention, fact: Fact) {
+    let texts = story.texts();
+    let valued = Valued(mention, fact.value);
     match fact.origin {
         Origin::Init(place) => {
-            put_at(page, texts.problem, place);
-            put_value(page, mention, fact.value);
-            page.put(", as in :init");
+            put!(page; "{}note: {valued}, as in :init\n", At(texts.problem, place));
         }
         Origin::Event(number, verb) => {
             let Some(event) = story.events().get(number) else {
                 return;
             };
-            put_at(page, texts.plan, step_place(story, event.step));
-            put_value(page, mention, fact.value);
-            page.put(", last ");
-            page.put(done(verb));
-            page.put(" by ");
-            put_event_with_action(page, story, *event);
-            page.put(" at ");
-            put_tick(page, texts, event.tick);
+            let done = match verb {
+                Verb::Adds => "added",
+                Verb::Deletes => "deleted",
+                _ => "changed",
+            };
+            put!(page; "{}note: {valued}, last {done} by {event} {} at {}\n",
+                texts.in_plan(story.step_place(event.step)), Deed(story, event.step),
+                texts.moment(event.tick));
         }
     }
-    page.end_line();
 }
 
 /// What is known of an atom or a fluent.
@@ -129,25 +103,15 @@ fn fact_of(facts: &Facts, mention: &Mention) -> Option<Fact> {
 }
 
 /// Puts a note on a mention: its value and where that is from.
-fn put_note(
-    page: &mut Page,
-    texts: &Texts<'_>,
-    story: &Story<'_>,
-    mention: &Mention,
-    facts: &Facts,
-) {
-    if let Some(fact) = fact_of(facts, mention) {
-        put_fact(page, texts, story, mention, fact);
-        return;
+fn put_note(page: &mut Page, story: &Story<'_>, mention: &Mention, facts: &Facts) {
+    let name = mention.name.as_str();
+    match fact_of(facts, mention) {
+        Some(fact) => put_fact(page, story, mention, fact),
+        None if mention.is_fluent => {
+            put!(page; "note: {name} has no value, as :init gives none\n");
+        }
+        None => put!(page; "note: {name} is false, as :init does not list it\n"),
     }
-    page.put("note: ");
-    page.put(mention.name.as_str());
-    if mention.is_fluent {
-        page.put(" has no value, as :init gives none");
-    } else {
-        page.put(" is false, as :init does not list it");
-    }
-    page.end_line();
 }
 
 /// Whether a mention is that of one before it.
@@ -157,75 +121,48 @@ fn is_again(mentions: &[Mention], at: usize, mention: &Mention) -> bool {
     })
 }
 
-/// Puts notes on mentions, each once, at most so many, and how many more there are.
-fn put_notes(
+/// Whether a fluent that is mentioned has no value.
+pub(crate) fn is_undefined(mention: &Mention, facts: &Facts) -> bool {
+    mention.is_fluent && facts.fluent(mention.name.as_str()).is_none()
+}
+
+/// Puts notes on mentions, or on those of them that are fluents without a value, each once, at most
+/// so many. Answers how many more there are.
+pub(crate) fn put_notes(
     page: &mut Page,
-    texts: &Texts<'_>,
     story: &Story<'_>,
     mentions: &[Mention],
     facts: &Facts,
     most: usize,
-) {
+    undefined: bool,
+) -> u64 {
     let mut count = 0usize;
     for (at, mention) in mentions.iter().enumerate() {
-        if is_again(mentions, at, mention) {
+        if is_again(mentions, at, mention) || (undefined && !is_undefined(mention, facts)) {
             continue;
         }
         if count < most {
-            put_note(page, texts, story, mention, facts);
+            put_note(page, story, mention, facts);
         }
         count = count.saturating_add(1);
     }
-    let more = count.saturating_sub(most);
-    if more > 0 {
-        page.put("note: ");
-        page.put_count(
-            number(more),
-            "more atom or fluent stands",
-            "more atoms and fluents stand",
-        );
-        page.put(" in it");
-        page.end_line();
-    }
+    count.saturating_sub(most) as u64
 }
 
 /// Puts the values of what a condition or a constraint mentions without a variable, at most so
 /// many.
 pub(crate) fn put_values<'a>(
     page: &mut Page,
-    texts: &Texts<'_>,
     story: &Story<'a>,
     leaf: &Leaf<'a>,
     facts: &Facts,
     most: usize,
 ) -> Result<(), AllocError> {
     let mentions = story.mentions(leaf, Scope::Free)?;
-    put_notes(page, texts, story, &mentions, facts, most);
-    Ok(())
-}
-
-/// Whether a fluent that is mentioned has no value.
-pub(crate) fn is_undefined(mention: &Mention, facts: &Facts) -> bool {
-    mention.is_fluent && facts.fluent(mention.name.as_str()).is_none()
-}
-
-/// Puts notes on those of the mentions that are fluents without a value, at most so many.
-pub(crate) fn put_undefined(
-    page: &mut Page,
-    texts: &Texts<'_>,
-    story: &Story<'_>,
-    mentions: &[Mention],
-    facts: &Facts,
-    most: usize,
-) {
-    let mut count = 0usize;
-    for (at, mention) in mentions.iter().enumerate() {
-        if !is_undefined(mention, facts) || is_again(mentions, at, mention) {
-            continue;
-        }
-        if count < most {
-            put_note(page, texts, story, mention, facts);
-        }
-        count = count.saturating_add(1);
+    let more = put_notes(page, story, &mentions, facts, most, false);
+    if more > 0 {
+        put!(page; "note: {} in it\n",
+            Count(more, "more atom or fluent stands", "more atoms and fluents stand"));
     }
+    Ok(())
 }

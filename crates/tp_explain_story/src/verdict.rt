@@ -6,9 +6,8 @@ use crate::durations::{tell_duration, tell_undefined};
 use crate::events::Event;
 use crate::story::Story;
 use crate::texts::Texts;
-use crate::trees::{Tree, read_tree};
 use std::alloc::{AllocError, Global};
-use tp_explain_text::Page;
+use tp_explain_text::{Page, Tree, read_tree};
 
 /// Why a plan is not valid, by the words of its line.
 #[derive(Clone, Copy)]
@@ -38,19 +37,18 @@ fn read_why(line: &str) -> Option<Why<'_>> {
 }
 
 /// Explains what is wrong with an event.
-fn tell_event<'a>(
+fn tell_event(
     page: &mut Page,
-    texts: &Texts<'_>,
-    story: &Story<'a>,
+    story: &Story<'_>,
     event: Event,
     why: Why<'_>,
 ) -> Result<(), AllocError> {
     match why.word {
-        "condition" => tell_condition(page, texts, story, event),
-        "undefined" => tell_undefined(page, texts, story, event),
-        "clash" => tell_clash(page, texts, story, event),
+        "condition" => tell_condition(page, story, event),
+        "undefined" => tell_undefined(page, story, event),
+        "clash" => tell_clash(page, story, event),
         "interferes" => match story.events().get(why.second) {
-            Some(other) => tell_interference(page, texts, story, event, *other),
+            Some(other) => tell_interference(page, story, event, *other),
             None => Ok(()),
         },
         _ => Ok(()),
@@ -58,62 +56,36 @@ fn tell_event<'a>(
 }
 
 /// Explains a verdict on the plan of a story.
-fn tell<'a>(
-    page: &mut Page,
-    texts: &Texts<'_>,
-    story: &Story<'a>,
-    why: Why<'_>,
-) -> Result<(), AllocError> {
+fn tell(page: &mut Page, story: &Story<'_>, why: Why<'_>) -> Result<(), AllocError> {
     match why.word {
-        "goal" => tell_goal(page, texts, story, why.tick),
-        "over-all" => tell_invariant(page, texts, story, why.first, why.tick),
-        "duration" => tell_duration(page, texts, story, why.first, why.tick),
+        "goal" => tell_goal(page, story, why.tick),
+        "over-all" => tell_invariant(page, story, why.first, why.tick),
+        "duration" => tell_duration(page, story, why.first, why.tick),
         _ => match story.events().get(why.first) {
-            Some(event) => tell_event(page, texts, story, *event, why),
+            Some(event) => tell_event(page, story, *event, why),
             None => Ok(()),
         },
     }
 }
 
+/// A text in lower case: nothing if it is none.
+fn lowered(alloc: Global, bytes: &[u8]) -> Result<String, AllocError> {
+    str::from_utf8(bytes)
+        .unwrap_or("")
+        .to_ascii_lowercase(alloc)
+}
+
 /// Explains a verdict on trees, and on the text of a plan in lower case.
 fn tell_trees<'a>(
-    alloc: Global,
     page: &mut Page,
-    texts: &Texts<'_>,
+    texts: &Texts<'a>,
     domain: &'a Tree,
     problem: &'a Tree,
     plan: &'a str,
     why: Why<'_>,
 ) -> Result<(), AllocError> {
-    let story = Story::new(alloc, domain, problem, plan, texts.scale)?;
-    tell(page, texts, &story, why)
-}
-
-/// Explains a verdict on texts in lower case.
-fn tell_lower(
-    alloc: Global,
-    page: &mut Page,
-    texts: &Texts<'_>,
-    domain: &str,
-    problem: &str,
-    plan: &str,
-    why: Why<'_>,
-) -> Result<(), AllocError> {
-    let Some(domain) = read_tree(alloc, domain)? else {
-        return Ok(());
-    };
-    let Some(problem) = read_tree(alloc, problem)? else {
-        return Ok(());
-    };
-    tell_trees(alloc, page, texts, &domain, &problem, plan, why)
-}
-
-/// A text in lower case: nothing if it is none.
-pub fn lowered(alloc: Global, bytes: &[u8]) -> Result<String, AllocError> {
-    match str::from_utf8(bytes) {
-        Ok(text) => text.to_ascii_lowercase(alloc),
-        Err(_) => Ok(String::new(alloc)),
-    }
+    let story = Story::new(page.alloc(), domain, problem, plan, *texts)?;
+    tell(page, &story, why)
 }
 
 /// Puts the explanation of the line of a verdict on a page: nothing, unless it says that the plan
@@ -121,25 +93,20 @@ pub fn lowered(alloc: Global, bytes: &[u8]) -> Result<String, AllocError> {
 ///
 /// # Errors
 /// Where memory is wanting: what is on the page then is a beginning of the explanation.
-pub fn explain_verdict(
-    alloc: Global,
-    page: &mut Page,
-    texts: &Texts<'_>,
-    line: &str,
-) -> Result<(), AllocError> {
+pub fn explain_verdict(page: &mut Page, texts: &Texts<'_>, line: &str) -> Result<(), AllocError> {
     let Some(why) = read_why(line) else {
         return Ok(());
     };
+    let alloc = page.alloc();
     let domain = lowered(alloc, texts.domain.text)?;
     let problem = lowered(alloc, texts.problem.text)?;
     let plan = lowered(alloc, texts.plan.text)?;
-    tell_lower(
-        alloc,
-        page,
-        texts,
-        domain.as_str(),
-        problem.as_str(),
-        plan.as_str(),
-        why,
-    )
+    let domain = read_tree(alloc, domain.as_str());
+    let problem = read_tree(alloc, problem.as_str());
+    match (&domain, &problem) {
+        (Ok(domain), Ok(problem)) => {
+            tell_trees(page, texts, domain, problem, plan.as_str(), why)
+        }
+        _ => Ok(()),
+    }
 }

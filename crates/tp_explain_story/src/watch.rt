@@ -2,17 +2,16 @@
 
 use crate::causes::Causes;
 use crate::edges::names_own_bound;
-use crate::journals::{follow_journal, head_of};
 use crate::lines::{Input, InputLine};
 use crate::names::Names;
 use crate::picture::Picture;
 use crate::refusals::{Reasons, tell_refusal};
 use crate::reports::{tell_end, tell_report};
 use crate::story::Story;
-use crate::trees::{Tree, read_tree};
+use crate::texts::Texts;
 use std::alloc::{AllocError, Global};
 use tp_bounds::Bound;
-use tp_explain_text::Page;
+use tp_explain_text::{Page, Tree, read_tree};
 use tp_script::{next_word, read_command, read_event, read_head_line, read_moment};
 use tp_text::Scale;
 
@@ -98,8 +97,8 @@ fn tell_of_trees<'a>(
     problem: &'a Tree,
     told: Told<'_>,
 ) -> Result<(), AllocError> {
-    let text = plan.plan.as_str();
-    let story = Story::new(picture.alloc(), domain, problem, text, plan.scale)?;
+    let texts = Texts::unnamed(plan.scale);
+    let story = Story::new(picture.alloc(), domain, problem, plan.plan.as_str(), texts)?;
     tell_of_story(page, picture, plan, &story, told)
 }
 
@@ -110,14 +109,12 @@ fn tell_of_plan(
     plan: &RunPlan,
     told: Told<'_>,
 ) -> Result<(), AllocError> {
-    let alloc = picture.alloc();
-    let Some(domain) = read_tree(alloc, plan.domain.as_str())? else {
-        return Ok(());
-    };
-    let Some(problem) = read_tree(alloc, plan.problem.as_str())? else {
-        return Ok(());
-    };
-    tell_of_trees(page, picture, plan, &domain, &problem, told)
+    let domain = read_tree(picture.alloc(), plan.domain.as_str());
+    let problem = read_tree(picture.alloc(), plan.problem.as_str());
+    match (&domain, &problem) {
+        (Ok(domain), Ok(problem)) => tell_of_trees(page, picture, plan, domain, problem, told),
+        _ => Ok(()),
+    }
 }
 
 /// What is known without the texts of a plan.
@@ -176,12 +173,6 @@ impl Watch {
         Ok(())
     }
 
-    /// Begins with a network that is given by hand.
-    fn begin(&mut self, events: u16, horizon: u32) -> Result<(), AllocError> {
-        self.picture = Some(Picture::new(self.alloc, events, horizon, &[])?);
-        Ok(())
-    }
-
     /// Begins with the network of which the input begins with the head.
     pub fn begin_bare(&mut self) -> Result<(), AllocError> {
         let Some(line) = self.input.look()? else {
@@ -191,7 +182,7 @@ impl Watch {
             return Ok(());
         };
         self.input.skip()?;
-        self.begin(events, horizon)?;
+        self.picture = Some(Picture::new(self.alloc, events, horizon, &[])?);
         self.take_lags()
     }
 
@@ -206,21 +197,6 @@ impl Watch {
         self.picture = Some(Picture::new(self.alloc, events, horizon, bounds)?);
         self.plan = Some(plan);
         Ok(())
-    }
-
-    /// Goes on from the end of a journal: that of the network of the plan that it has begun with,
-    /// or else of the network of the journal's head.
-    pub fn begin_journal(&mut self, journal: &[u8]) -> Result<(), AllocError> {
-        if self.picture.is_none() {
-            let Some((events, horizon)) = head_of(journal) else {
-                return Ok(());
-            };
-            self.begin(events, horizon)?;
-        }
-        match &mut self.picture {
-            Some(picture) => follow_journal(picture, journal),
-            None => Ok(()),
-        }
     }
 
     /// Explains what is told, with the texts of the plan where reasons need them.

@@ -1,9 +1,9 @@
 //! What a domain and a problem declare.
 
-use crate::forms::{field, first_word, items_of, rest_of, section, word_of};
-use crate::trees::Tree;
+use crate::forms::{field, section};
 use crate::typed::{Binding, Typed, fits, read_typed};
 use std::alloc::{AllocError, Global};
+use tp_explain_text::Tree;
 
 /// An action of the domain.
 #[derive(Drop)]
@@ -27,26 +27,18 @@ pub struct World<'a> {
     pub(crate) goal: Option<&'a Tree>,
 }
 
-/// What stands behind the first word of a section.
-fn members<'a>(tree: &'a Tree, word: &str) -> &'a [Tree] {
-    match section(tree, word) {
-        Some(list) => rest_of(list),
-        None => &[],
-    }
-}
-
 /// The action that a list declares, if it does.
 fn read_action<'a>(alloc: Global, tree: &'a Tree) -> Result<Option<Action<'a>>, AllocError> {
-    let lasts = first_word(tree) == ":durative-action";
-    if !lasts && first_word(tree) != ":action" {
+    let lasts = tree.head() == ":durative-action";
+    if !lasts && tree.head() != ":action" {
         return Ok(None);
     }
-    let name = match items_of(tree) {
-        [_, name, ..] => word_of(name),
+    let name = match tree.items() {
+        [_, name, ..] => name.word(),
         _ => "",
     };
     let parameters = match field(tree, ":parameters") {
-        Some(list) => read_typed(alloc, items_of(list))?,
+        Some(list) => read_typed(alloc, list.items())?,
         None => Vec::new(alloc),
     };
     let wanted = if lasts { ":condition" } else { ":precondition" };
@@ -63,7 +55,7 @@ fn read_action<'a>(alloc: Global, tree: &'a Tree) -> Result<Option<Action<'a>>, 
 /// The actions of a domain.
 fn read_actions<'a>(alloc: Global, domain: &'a Tree) -> Result<Vec<Action<'a>>, AllocError> {
     let mut actions = Vec::new(alloc);
-    for item in items_of(domain) {
+    for item in domain.items() {
         if let Some(action) = read_action(alloc, item)? {
             actions.push(action)?;
         }
@@ -77,8 +69,8 @@ fn read_objects<'a>(
     domain: &'a Tree,
     problem: &'a Tree,
 ) -> Result<Vec<Typed<'a>>, AllocError> {
-    let mut objects = read_typed(alloc, members(domain, ":constants"))?;
-    let more = read_typed(alloc, members(problem, ":objects"))?;
+    let mut objects = read_typed(alloc, section(domain, ":constants"))?;
+    let more = read_typed(alloc, section(problem, ":objects"))?;
     for object in &more {
         objects.push(*object)?;
     }
@@ -92,7 +84,7 @@ impl<'a> World<'a> {
         domain: &'a Tree,
         problem: &'a Tree,
     ) -> Result<World<'a>, AllocError> {
-        let types = read_typed(alloc, members(domain, ":types"))?;
+        let types = read_typed(alloc, section(domain, ":types"))?;
         let objects = read_objects(alloc, domain, problem)?;
         let actions = read_actions(alloc, domain)?;
         Ok(World {
@@ -100,8 +92,8 @@ impl<'a> World<'a> {
             types,
             objects,
             actions,
-            init: members(problem, ":init"),
-            goal: match members(problem, ":goal") {
+            init: section(problem, ":init"),
+            goal: match section(problem, ":goal") {
                 [] => None,
                 [goal, ..] => Some(goal),
             },

@@ -3,7 +3,7 @@
 use crate::expressions::{atom_reason, operands_reason, term_reason, value_reason};
 use crate::reasons::{Found, Help, Reason, What};
 use crate::sections::{first_word, in_list};
-use tp_explain_text::{Step, Tree, Value, head_word, is_list, is_the_word};
+use tp_explain_text::{Step, Tree, Value, head_of};
 use tp_syntax_ast::{
     CondWord, EffectWord, Joint, TimeSpecifier, cond_word_of, effect_word_of, is_name, joint_of,
     specifier_of,
@@ -45,7 +45,7 @@ fn count_reason<'t>(
     if count == wanted {
         return None;
     }
-    let what = What::Takes(head_word(step.items)?, words, count);
+    let what = What::Takes(head_of(step.items), words, count);
     Some(Reason::new(step.start, what))
 }
 
@@ -60,12 +60,12 @@ fn bound_reason<'t>(
             let what = What::Expected(VARIABLES, Found::Nothing);
             return Some(Reason::new(step.start, what));
         }
-        Some(list) if !is_list(list) => return Some(Reason::expected(VARIABLES, list)),
+        Some(list) if !list.is_list() => return Some(Reason::expected(VARIABLES, list)),
         Some(_) => {}
     }
     let count = step.items.len().saturating_sub(2);
     if count != 1 {
-        let what = What::Takes(head_word(step.items)?, words, count);
+        let what = What::Takes(head_of(step.items), words, count);
         return Some(Reason::new(step.start, what));
     }
     let body = step.items.get(2)?;
@@ -84,9 +84,10 @@ fn has_terms<'t>(items: &'t [Tree]) -> bool {
 
 /// What is wrong with a condition.
 pub fn condition_reason<'t>(step: &Step<'t>) -> Option<Reason<'t>> {
-    let Some(head) = head_word(step.items) else {
+    let head = head_of(step.items);
+    if head.is_empty() {
         return Some(Reason::expected_list(step.start, CONDITION, step.items));
-    };
+    }
     match cond_word_of(head) {
         CondWord::And | CondWord::Or => parts_reason(step, CONDITION),
         CondWord::Not => count_reason(step, CONDITION, 1, ONE_CONDITION),
@@ -131,13 +132,7 @@ fn time_help<'t>(items: &'t [Tree], head: &'t str, effect: bool) -> Help<'t> {
 
 /// The time that a list begins with.
 fn time_of(items: &[Tree]) -> Option<TimeSpecifier> {
-    let Some(Tree::Word(word)) = items.first() else {
-        return None;
-    };
-    let Some(Tree::Word(moment)) = items.get(1) else {
-        return None;
-    };
-    specifier_of(word.text.as_str(), moment.text.as_str())
+    specifier_of(head_of(items), items.get(1)?.word())
 }
 
 /// What is wrong with what stands at a time: it is not one list.
@@ -173,9 +168,10 @@ pub fn timed_reason<'t>(step: &Step<'t>, effect: bool) -> Option<Reason<'t>> {
         TIMED_CONDITION
     };
     let words = if effect { ONE_EFFECT } else { ONE_CONDITION };
-    let Some(head) = head_word(step.items) else {
+    let head = head_of(step.items);
+    if head.is_empty() {
         return Some(Reason::expected_list(step.start, form, step.items));
-    };
+    }
     match joint_of(head) {
         Joint::And => return parts_reason(step, form),
         Joint::Forall => return bound_reason(step, form, words),
@@ -195,9 +191,10 @@ pub fn timed_reason<'t>(step: &Step<'t>, effect: bool) -> Option<Reason<'t>> {
 
 /// What is wrong with an effect. `lasts`: it is one of a durative action.
 pub fn effect_reason<'t>(step: &Step<'t>, lasts: bool) -> Option<Reason<'t>> {
-    let Some(head) = head_word(step.items) else {
+    let head = head_of(step.items);
+    if head.is_empty() {
         return Some(Reason::expected_list(step.start, EFFECT, step.items));
-    };
+    }
     match joint_of(head) {
         Joint::And => return parts_reason(step, EFFECT),
         Joint::Forall => return bound_reason(step, EFFECT, ONE_EFFECT),
@@ -216,7 +213,7 @@ fn writing_reason<'t>(step: &Step<'t>, lasts: bool) -> Option<Reason<'t>> {
     let [_, fluent, value] = step.items else {
         return operands_reason(step.items, step.start);
     };
-    if !is_list(fluent) {
+    if !fluent.is_list() {
         return Some(Reason::expected("`(FUNCTION ..)`", fluent).with_help(in_list(fluent)));
     }
     value_reason(value, lasts)
@@ -224,9 +221,10 @@ fn writing_reason<'t>(step: &Step<'t>, lasts: bool) -> Option<Reason<'t>> {
 
 /// What is wrong with a duration constraint.
 pub fn constraint_reason<'t>(step: &Step<'t>) -> Option<Reason<'t>> {
-    let Some(head) = head_word(step.items) else {
+    let head = head_of(step.items);
+    if head.is_empty() {
         return Some(Reason::expected_list(step.start, CONSTRAINT, step.items));
-    };
+    }
     if head.eq_ignore_ascii_case("and") {
         let word = first_word(step.items, 1)?;
         return Some(Reason::expected(CONSTRAINT, word));
@@ -241,7 +239,7 @@ pub fn constraint_reason<'t>(step: &Step<'t>) -> Option<Reason<'t>> {
         b"<=" | b"=" | b">=" => {}
         _ => return Some(Reason::expected_list(step.start, CONSTRAINT, step.items)),
     }
-    if !is_the_word(subject, "?duration") {
+    if !subject.is("?duration") {
         return Some(Reason::expected("`?duration`", subject));
     }
     value_reason(value, false)
@@ -250,7 +248,7 @@ pub fn constraint_reason<'t>(step: &Step<'t>) -> Option<Reason<'t>> {
 /// What is wrong with a duration constraint behind `at`.
 fn start_reason<'t>(step: &Step<'t>) -> Option<Reason<'t>> {
     match step.items {
-        [_, moment, ..] if !is_the_word(moment, "start") => {
+        [_, moment, ..] if !moment.is("start") => {
             Some(Reason::expected("`start` behind `at`", moment))
         }
         [_, _, body] => Some(Reason::expected(CONSTRAINT, body)),

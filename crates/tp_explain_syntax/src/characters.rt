@@ -1,30 +1,7 @@
 //! Characters that may not stand in a text outside comments.
 
 use std::str::from_utf8;
-use tp_explain_text::{Page, Source, end_headline, first_char, put_error_at};
-
-/// Puts a hexadecimal digit.
-fn put_digit(page: &mut Page, digit: u32) {
-    if let Some(byte) = b"0123456789ABCDEF".get(digit as usize) {
-        page.put_byte(*byte);
-    }
-}
-
-/// Puts a number by at least four hexadecimal digits.
-fn put_code_point(page: &mut Page, code: u32) {
-    page.put("U+");
-    let mut unit = 0x10_0000u32;
-    for place in 0..6 {
-        if unit == 0 {
-            break;
-        }
-        let digit = code / unit % 16;
-        if place > 1 || code >= unit {
-            put_digit(page, digit);
-        }
-        unit /= 16;
-    }
-}
+use tp_explain_text::{Page, Source, error_at, first_char, put};
 
 /// What a character is, and what to do about it, at the beginning of a file or elsewhere.
 fn words_of(found: char, first: bool) -> (&'static str, &'static str) {
@@ -50,33 +27,15 @@ pub fn put_bad_byte(page: &mut Page, source: Source<'_>, at: usize) {
         return;
     };
     let (name, help) = words_of(found, at == 0);
-    put_error_at(page, source, at);
-    put_code_point(page, u32::from(found));
-    page.put(", ");
-    page.put(name);
-    page.put(", stands outside a comment");
-    end_headline(page, source, at);
-    page.put("help: ");
-    page.put(help);
-    page.end_line();
-}
-
-/// The place of the first byte that begins no character.
-fn first_bad(text: &[u8]) -> Option<usize> {
-    match from_utf8(text) {
-        Ok(_) => None,
-        Err(error) => Some(error.valid_up_to()),
-    }
+    let code = u32::from(found);
+    error_at!(page, source, at; "U+{code:04X}, {name}, stands outside a comment");
+    put!(page; "help: {help}\n");
 }
 
 /// Puts what is wrong with a file that is not UTF-8.
 pub fn put_no_utf8(page: &mut Page, source: Source<'_>) {
-    let Some(at) = first_bad(source.text) else {
-        return;
-    };
-    put_error_at(page, source, at);
-    page.put("the file is not UTF-8 here");
-    end_headline(page, source, at);
-    page.put("help: save the file as UTF-8");
-    page.end_line();
+    if let Err(error) = from_utf8(source.text) {
+        error_at!(page, source, error.valid_up_to(); "the file is not UTF-8 here");
+        page.put("help: save the file as UTF-8\n");
+    }
 }

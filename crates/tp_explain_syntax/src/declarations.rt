@@ -1,9 +1,8 @@
 //! What a domain and a problem declare, and the variables in scope.
 
 use std::alloc::{AllocError, Global};
-use tp_explain_text::{
-    Role, Source, Step, Text, Tree, head_word, is_dash, is_the_word, items_of, place_of, word_of,
-};
+use std::fmt;
+use tp_explain_text::{Role, Source, Step, Text, Tree, head_of, path_to};
 use tp_syntax_ast::Section;
 
 /// What a name may be declared as.
@@ -17,17 +16,17 @@ pub enum Kind {
     Action,
 }
 
-impl Kind {
-    /// Its word.
-    pub fn word(self) -> &'static str {
-        match self {
+impl fmt::Display for Kind {
+    fn fmt<W: fmt::Write>(&self, f: &mut fmt::Formatter<W>) -> fmt::Result {
+        let word = match *self {
             Kind::Type => "type",
             Kind::Predicate => "predicate",
             Kind::Function => "function",
             Kind::Object => "object",
             Kind::Variable => "variable",
             Kind::Action => "action",
-        }
+        };
+        write!(f, "{word}")
     }
 }
 
@@ -48,6 +47,22 @@ impl<'t> World<'t> {
     }
 }
 
+/// The place of a fault in the domain, or in the problem.
+#[derive(Clone, Copy)]
+pub struct Fault<'t> {
+    pub world: World<'t>,
+    pub text: Text<'t>,
+    pub in_problem: bool,
+    pub at: usize,
+}
+
+impl<'t> Fault<'t> {
+    /// The lists around it, the outermost first.
+    pub fn path(&self, alloc: Global) -> Result<Vec<Step<'t>>, AllocError> {
+        path_to(alloc, &self.text, self.in_problem, self.at)
+    }
+}
+
 /// A name as it is declared: where, and behind which `-` its type stands, if any.
 #[derive(Clone, Copy)]
 pub struct Declared<'t> {
@@ -59,30 +74,37 @@ pub struct Declared<'t> {
 
 /// The members behind the first word of the first section of a name.
 pub fn section_of<'t>(text: &Text<'t>, name: &str) -> &'t [Tree] {
-    for tree in items_of(text.tree) {
-        let items = items_of(tree);
-        if let [head, members @ ..] = items {
-            if is_the_word(head, name) {
-                return members;
-            }
+    for tree in text.tree.items() {
+        if tree.head().eq_ignore_ascii_case(name) {
+            return tree.rest();
         }
     }
     &[]
 }
 
-/// The members of a list, if there is one.
-pub fn items_in<'t>(tree: Option<&'t Tree>) -> &'t [Tree] {
-    match tree {
-        Some(list) => items_of(list),
+/// The word that a member of a number is, or nothing.
+pub fn word_at<'t>(items: &'t [Tree], number: usize) -> &'t str {
+    match items.get(number) {
+        Some(tree) => tree.word(),
+        None => "",
+    }
+}
+
+/// The members that a member of a number has, if there is one.
+pub fn items_at<'t>(items: &'t [Tree], number: usize) -> &'t [Tree] {
+    match items.get(number) {
+        Some(tree) => tree.items(),
         None => &[],
     }
 }
 
-/// The word that a tree is, or one that is empty.
-pub fn word_in<'t>(tree: Option<&'t Tree>) -> &'t str {
-    match tree {
-        Some(Tree::Word(token)) => token.text.as_str(),
-        _ => "",
+/// A name without types that stands at a tree.
+fn plain<'t>(tree: &'t Tree, in_problem: bool) -> Declared<'t> {
+    Declared {
+        name: tree.word(),
+        at: tree.place(),
+        in_problem,
+        types: None,
     }
 }
 
@@ -106,15 +128,10 @@ pub fn add_typed<'t>(
             give_type(items.as_mut_slice(), from, tree);
             from = items.len();
             after_dash = false;
-        } else if is_dash(tree) {
+        } else if tree.is("-") {
             after_dash = true;
-        } else if let Some(name) = word_of(tree) {
-            items.push(Declared {
-                name,
-                at: place_of(tree),
-                in_problem,
-                types: None,
-            })?;
+        } else if !tree.is_list() {
+            items.push(plain(tree, in_problem))?;
         }
     }
     Ok(())
@@ -143,41 +160,23 @@ pub fn find_named<'t>(items: &[Declared<'t>], name: &str) -> Option<Declared<'t>
 fn add_mentioned<'t>(items: &mut Vec<Declared<'t>>, trees: &'t [Tree]) -> Result<(), AllocError> {
     let mut after_dash = false;
     for tree in trees {
-        if after_dash {
-            if let Some(name) = word_of(tree) {
-                let is_object = name.eq_ignore_ascii_case("object");
-                if !is_object && find_named(items.as_slice(), name).is_none() {
-                    items.push(Declared {
-                        name,
-                        at: place_of(tree),
-                        in_problem: false,
-                        types: None,
-                    })?;
-                }
-            }
+        if after_dash
+            && !tree.is_list()
+            && !tree.is("object")
+            && find_named(items.as_slice(), tree.word()).is_none()
+        {
+            items.push(plain(tree, false))?;
         }
-        after_dash = is_dash(tree);
+        after_dash = tree.is("-");
     }
     Ok(())
 }
 
 /// The names that lists begin with.
-fn add_heads<'t>(
-    items: &mut Vec<Declared<'t>>,
-    trees: &'t [Tree],
-    number: usize,
-) -> Result<(), AllocError> {
+fn add_heads<'t>(items: &mut Vec<Declared<'t>>, trees: &'t [Tree]) -> Result<(), AllocError> {
     for tree in trees {
-        let Some(head) = items_of(tree).get(number) else {
-            continue;
-        };
-        if let Some(name) = word_of(head) {
-            items.push(Declared {
-                name,
-                at: place_of(head),
-                in_problem: false,
-                types: None,
-            })?;
+        if let Some(head @ Tree::Word { .. }) = tree.items().first() {
+            items.push(plain(head, false))?;
         }
     }
     Ok(())
@@ -185,29 +184,20 @@ fn add_heads<'t>(
 
 /// Whether a section is an action.
 pub fn is_action(items: &[Tree]) -> bool {
-    match items.first() {
-        Some(Tree::Word(head)) => matches!(
-            tp_syntax_ast::section_of(head.text.as_str()),
-            Some(Section::Action | Section::DurativeAction)
-        ),
-        _ => false,
-    }
+    matches!(
+        tp_syntax_ast::section_of(head_of(items)),
+        Some(Section::Action | Section::DurativeAction)
+    )
 }
 
 /// The names of actions.
 fn add_actions<'t>(items: &mut Vec<Declared<'t>>, text: &Text<'t>) -> Result<(), AllocError> {
-    for tree in items_of(text.tree) {
-        let section = items_of(tree);
-        if !is_action(section) {
-            continue;
-        }
-        if let Some(Tree::Word(name)) = section.get(1) {
-            items.push(Declared {
-                name: name.text.as_str(),
-                at: name.span.start as usize,
-                in_problem: false,
-                types: None,
-            })?;
+    for tree in text.tree.items() {
+        if let (true, Some(name @ Tree::Word { .. })) = (
+            is_action(tree.items()),
+            tree.items().get(1),
+        ) {
+            items.push(plain(name, false))?;
         }
     }
     Ok(())
@@ -227,8 +217,8 @@ pub fn declarations_of<'t>(
             add_typed(&mut items, types, false)?;
             add_mentioned(&mut items, types)?;
         }
-        Kind::Predicate => add_heads(&mut items, section_of(&world.domain, ":predicates"), 0)?,
-        Kind::Function => add_heads(&mut items, section_of(&world.domain, ":functions"), 0)?,
+        Kind::Predicate => add_heads(&mut items, section_of(&world.domain, ":predicates"))?,
+        Kind::Function => add_heads(&mut items, section_of(&world.domain, ":functions"))?,
         Kind::Object => add_objects(&mut items, world)?,
         Kind::Action => add_actions(&mut items, &world.domain)?,
         Kind::Variable => {}
@@ -244,40 +234,30 @@ fn add_objects<'t>(items: &mut Vec<Declared<'t>>, world: &World<'t>) -> Result<(
     }
 }
 
-/// The value of a field of an action.
-pub fn field_of<'t>(action: &'t [Tree], name: &str) -> Option<&'t Tree> {
-    let fields = action.get(2..)?;
-    for pair in fields.chunks(2) {
+/// The parameters of an action, as they are written.
+pub fn parameters_in<'t>(action: &'t [Tree]) -> &'t [Tree] {
+    for pair in action.get(2..).unwrap_or(&[]).chunks(2) {
         if let [word, value] = pair {
-            if is_the_word(word, name) {
-                return Some(value);
+            if word.is(":parameters") {
+                return value.items();
             }
         }
     }
-    None
+    &[]
 }
 
 /// The variables that a list of a path brings into scope for what stands in it.
 fn bound_in<'t>(step: &Step<'t>) -> &'t [Tree] {
-    if step.child < 2 {
-        return &[];
-    }
+    let head = head_of(step.items);
     match step.role {
-        Role::Section(Section::Action | Section::DurativeAction) => {
-            items_in(field_of(step.items, ":parameters"))
-        }
-        Role::Condition | Role::TimedCondition | Role::TimedEffect | Role::Effect => {
-            match head_word(step.items) {
-                Some(head) if is_quantifier(head) => items_in(step.items.get(1)),
-                _ => &[],
-            }
+        _ if step.child < 2 => &[],
+        Role::Section(Section::Action | Section::DurativeAction) => parameters_in(step.items),
+        Role::Condition | Role::TimedCondition | Role::TimedEffect | Role::Effect
+            if head.eq_ignore_ascii_case("forall") || head.eq_ignore_ascii_case("exists") => {
+            items_at(step.items, 1)
         }
         _ => &[],
     }
-}
-
-fn is_quantifier(word: &str) -> bool {
-    word.eq_ignore_ascii_case("forall") || word.eq_ignore_ascii_case("exists")
 }
 
 /// The variables in scope at the end of a path, the outermost first.

@@ -3,7 +3,7 @@
 use crate::reasons::{Reason, What};
 use crate::sections::in_list;
 use crate::typed_lists::is_variable;
-use tp_explain_text::{Tree, head_word, is_the_word};
+use tp_explain_text::{Tree, head_of};
 use tp_syntax_ast::{Operator, is_name, operator_of};
 use tp_text::read_whole;
 
@@ -23,13 +23,11 @@ pub fn begins_number(word: &str) -> bool {
 /// What is wrong with a word where an expression is wanted; `?duration` is one where something
 /// lasts.
 pub fn value_reason<'t>(tree: &'t Tree, lasts: bool) -> Option<Reason<'t>> {
-    let Tree::Word(word) = tree else {
-        return None;
-    };
-    if lasts && is_the_word(tree, "?duration") {
+    let word = tree.word();
+    if tree.is_list() || (lasts && tree.is("?duration")) {
         return None;
     }
-    if read_whole(word.text.as_str()).is_some() || begins_number(word.text.as_str()) {
+    if read_whole(word).is_some() || begins_number(word) {
         return None;
     }
     Some(Reason::expected(NUMBER, tree).with_help(in_list(tree)))
@@ -37,18 +35,16 @@ pub fn value_reason<'t>(tree: &'t Tree, lasts: bool) -> Option<Reason<'t>> {
 
 /// What is wrong with a term: it is neither a name nor a variable.
 pub fn term_reason<'t>(tree: &'t Tree) -> Option<Reason<'t>> {
-    match tree {
-        Tree::Word(word)
-            if is_name(word.text.as_str().as_bytes()) || is_variable(word.text.as_str()) => None,
-        _ => Some(Reason::expected(TERM, tree)),
+    if is_name(tree.word().as_bytes()) || is_variable(tree.word()) {
+        return None;
     }
+    Some(Reason::expected(TERM, tree))
 }
 
 /// What is wrong with `(NAME TERM ..)`, where some form is wanted.
 pub fn atom_reason<'t>(items: &'t [Tree], start: usize, form: &'static str) -> Option<Reason<'t>> {
-    match head_word(items) {
-        Some(name) if is_name(name.as_bytes()) => {}
-        _ => return Some(Reason::expected_list(start, form, items)),
+    if !is_name(head_of(items).as_bytes()) {
+        return Some(Reason::expected_list(start, form, items));
     }
     for tree in items.get(1..)? {
         if let Some(reason) = term_reason(tree) {
@@ -64,14 +60,15 @@ pub fn operands_reason<'t>(items: &'t [Tree], start: usize) -> Option<Reason<'t>
     if count == 2 {
         return None;
     }
-    Some(Reason::new(start, What::Takes(head_word(items)?, "2 operands", count)))
+    Some(Reason::new(start, What::Takes(head_of(items), "2 operands", count)))
 }
 
 /// What is wrong with an expression that is a list.
 pub fn expression_reason<'t>(items: &'t [Tree], start: usize, lasts: bool) -> Option<Reason<'t>> {
-    let Some(head) = head_word(items) else {
+    let head = head_of(items);
+    if head.is_empty() {
         return Some(Reason::expected_list(start, NUMBER, items));
-    };
+    }
     let operator = operator_of(head);
     if operator == Operator::Other {
         return atom_reason(items, start, NUMBER);

@@ -3,7 +3,7 @@
 use crate::expressions::atom_reason;
 use crate::reasons::{Reason, What};
 use crate::sections::{first_word, in_list};
-use tp_explain_text::{Step, Tree, head_word, is_list, word_of};
+use tp_explain_text::{Step, Tree, head_of};
 use tp_syntax_ast::is_name;
 use tp_text::read_whole;
 
@@ -39,7 +39,7 @@ fn denied_reason<'t>(step: &Step<'t>) -> Option<Reason<'t>> {
     match step.items {
         [_, atom] => Some(Reason::expected(ATOM, atom).with_help(in_list(atom))),
         [head, atoms @ ..] => {
-            let what = What::Takes(word_of(head)?, "1 atom", atoms.len());
+            let what = What::Takes(head.word(), "1 atom", atoms.len());
             Some(Reason::new(step.start, what))
         }
         [] => None,
@@ -51,20 +51,21 @@ fn valued_reason<'t>(step: &Step<'t>) -> Option<Reason<'t>> {
     let [_, fluent, number] = step.items else {
         return Some(Reason::expected_list(step.start, VALUE, step.items));
     };
-    if !is_list(fluent) {
+    if !fluent.is_list() {
         return Some(Reason::expected(FLUENT, fluent).with_help(in_list(fluent)));
     }
-    match number {
-        Tree::Word(word) if read_whole(word.text.as_str()).is_some() => None,
-        _ => Some(Reason::expected("a number", number)),
+    if read_whole(number.word()).is_some() {
+        return None;
     }
+    Some(Reason::expected("a number", number))
 }
 
 /// What is wrong with an entry of `:init`.
 pub fn initial_reason<'t>(step: &Step<'t>) -> Option<Reason<'t>> {
-    let Some(head) = head_word(step.items) else {
+    let head = head_of(step.items);
+    if head.is_empty() {
         return Some(Reason::expected_list(step.start, ENTRY, step.items));
-    };
+    }
     if head.eq_ignore_ascii_case("not") {
         return denied_reason(step);
     }
@@ -76,11 +77,9 @@ pub fn initial_reason<'t>(step: &Step<'t>) -> Option<Reason<'t>> {
 
 /// What is wrong with `(NAME TERM ..)` that stands where nothing else may.
 pub fn only_atom_reason<'t>(step: &Step<'t>, function: bool) -> Option<Reason<'t>> {
-    match head_word(step.items) {
-        Some(name) if is_name(name.as_bytes()) => atom_reason(step.items, step.start, ATOM),
-        _ => {
-            let form = if function { FLUENT } else { ATOM };
-            Some(Reason::expected_list(step.start, form, step.items))
-        }
+    if is_name(head_of(step.items).as_bytes()) {
+        return atom_reason(step.items, step.start, ATOM);
     }
+    let form = if function { FLUENT } else { ATOM };
+    Some(Reason::expected_list(step.start, form, step.items))
 }

@@ -35,12 +35,13 @@ mod unknown;
 
 pub use characters::{put_bad_byte, put_no_utf8};
 pub use declarations::{
-    Declared, Kind, World, declarations_of, find_named, is_action, section_of, typed_items,
+    Declared, Fault, Kind, World, declarations_of, find_named, is_action, parameters_in,
+    section_of, typed_items,
 };
 pub use left_out::put_left_out;
 pub use lists::{put_depth, put_empty, put_extra, put_text_too_long, put_unclosed};
-pub use mismatches::{put_cannot_fit, put_takes, put_types};
-pub use near::{other_kind, put_near, put_other_kind};
+pub use mismatches::{first_misfit, put_takes, put_types};
+pub use near::put_no_name;
 pub use shapes::put_shape;
 pub use twice::put_twice;
 pub use typing::{Types, fits};

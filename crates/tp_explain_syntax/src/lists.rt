@@ -1,8 +1,8 @@
 //! What is wrong with the lists of a text.
 
 use crate::indentation::{Reading, Rules, Suspect, read};
-use std::alloc::{AllocError, Global};
-use tp_explain_text::{Page, Source, end_headline, put_error_at, put_file, put_place};
+use std::alloc::AllocError;
+use tp_explain_text::{At, Count, Page, Source, error_at, put};
 
 /// The first list that should have ended before something behind it, if the text is one list with
 /// it closed.
@@ -12,52 +12,38 @@ fn suspect_of(reading: Reading) -> Option<Suspect> {
 
 /// Puts that a list is not closed, before its witness.
 fn put_suspect(page: &mut Page, source: Source<'_>, suspect: Suspect) {
-    put_error_at(page, source, suspect.list);
-    page.put("the list that begins here is not closed");
-    end_headline(page, source, suspect.list);
-    put_place(page, source, suspect.witness);
-    page.put(if suspect.is_field {
-        "note: a field begins here that cannot stand in it"
+    error_at!(page, source, suspect.list; "the list that begins here is not closed");
+    put!(page; "{}note: a {}\n", At(source, suspect.witness), if suspect.is_field {
+        "field begins here that cannot stand in it"
     } else {
-        "note: a list begins here that cannot stand in it, by its indentation"
+        "list begins here that cannot stand in it, by its indentation"
     });
-    page.end_line();
-    page.put("help: write a `)` before that");
-    page.end_line();
+    page.put("help: write a `)` before that\n");
 }
 
 /// Puts that the outermost list is not closed, and how many are not.
 fn put_outermost(page: &mut Page, source: Source<'_>, at: usize, open: usize) {
-    put_error_at(page, source, at);
-    page.put("the list that begins here is not closed");
-    end_headline(page, source, at);
-    page.put("note: ");
-    page.put_count(open as u64, "list is", "lists are");
-    page.put(" open at the end of the file");
-    page.end_line();
+    error_at!(page, source, at; "the list that begins here is not closed");
+    put!(page; "note: {} open at the end of the file\n", Count(open as u64, "list is", "lists are"));
     page.put("help: write `");
     for _ in 0..open.min(64) {
         page.put(")");
     }
-    page.put("` there");
-    page.end_line();
+    page.put("` there\n");
 }
 
 /// Puts which list of a text is not closed. The outermost one that is not begins at a place.
-pub fn put_unclosed(
-    alloc: Global,
-    page: &mut Page,
-    source: Source<'_>,
-    text: &str,
-    at: usize,
-) -> Result<(), AllocError> {
-    if let Some(suspect) = suspect_of(read(alloc, text, Rules::All)?) {
-        put_suspect(page, source, suspect);
-        return Ok(());
-    }
-    if let Some(suspect) = suspect_of(read(alloc, text, Rules::Fields)?) {
-        put_suspect(page, source, suspect);
-        return Ok(());
+pub fn put_unclosed(page: &mut Page, name: &str, text: &str, at: usize) -> Result<(), AllocError> {
+    let alloc = page.alloc();
+    let source = Source {
+        name,
+        text: text.as_bytes(),
+    };
+    for rules in [Rules::All, Rules::Fields] {
+        if let Some(suspect) = suspect_of(read(alloc, text, rules)?) {
+            put_suspect(page, source, suspect);
+            return Ok(());
+        }
     }
     let reading = read(alloc, text, Rules::Nothing)?;
     put_outermost(page, source, at, reading.open);
@@ -89,50 +75,32 @@ fn end_of_first(text: &[u8]) -> Option<usize> {
 
 /// Puts that something follows the list that is the file.
 pub fn put_extra(page: &mut Page, source: Source<'_>, at: usize) {
-    put_error_at(page, source, at);
-    let end = end_of_first(source.text);
-    page.put(match end {
-        Some(_) => "something follows the list that is the file",
-        None => "the file is not one list",
-    });
-    end_headline(page, source, at);
-    if let Some(end) = end {
-        put_place(page, source, end);
-        page.put("note: that list ends here");
-        page.end_line();
-        page.put("help: a `)` too many stands there or before");
-        page.end_line();
-    }
+    let Some(end) = end_of_first(source.text) else {
+        error_at!(page, source, at; "the file is not one list");
+        return;
+    };
+    error_at!(page, source, at; "something follows the list that is the file");
+    put!(page; "{}note: that list ends here\n", At(source, end));
+    page.put("help: a `)` too many stands there or before\n");
 }
 
 /// Puts that a list stands inside too many others.
 pub fn put_depth(page: &mut Page, source: Source<'_>, at: usize) {
-    put_error_at(page, source, at);
-    page.put("a list stands inside 64 others");
-    end_headline(page, source, at);
-    page.put("help: write `(and A B C)` for `(and A (and B C))`");
-    page.end_line();
+    error_at!(page, source, at; "a list stands inside 64 others");
+    page.put("help: write `(and A B C)` for `(and A (and B C))`\n");
 }
 
 /// Puts that a text has nothing but blanks and comments.
 pub fn put_empty(page: &mut Page, name: &str, in_problem: bool) {
-    put_file(page, name);
-    page.put("error: the file has nothing but blanks and comments");
-    page.end_line();
+    put!(page; "{name}: error: the file has nothing but blanks and comments\n");
     page.put(if in_problem {
-        "note: a problem is one list, `(define (problem NAME) (:domain NAME) ..)`"
+        "note: a problem is one list, `(define (problem NAME) (:domain NAME) ..)`\n"
     } else {
-        "note: a domain is one list, `(define (domain NAME) ..)`"
+        "note: a domain is one list, `(define (domain NAME) ..)`\n"
     });
-    page.end_line();
 }
 
 /// Puts that a text is too long.
 pub fn put_text_too_long(page: &mut Page, name: &str, help: &str) {
-    put_file(page, name);
-    page.put("error: the file has more than 1048576 bytes");
-    page.end_line();
-    page.put("help: ");
-    page.put(help);
-    page.end_line();
+    put!(page; "{name}: error: the file has more than 1048576 bytes\nhelp: {help}\n");
 }

@@ -2,35 +2,21 @@
 
 use crate::declarations::{Declared, Kind, World, declarations_of, find_named};
 use std::alloc::{AllocError, Global};
-use tp_explain_text::{Nearest, Page, put_place};
+use tp_explain_text::{At, Nearest, Page, Source, error_at, put};
 
 /// The most names of a list.
 const MOST: usize = 8;
 
-/// Puts the help for a name that is near and declared at a place.
-fn put_did_you_mean<'t>(page: &mut Page, world: &World<'t>, name: &Declared<'t>) {
-    put_place(page, world.source_of(name), name.at);
-    page.put("help: did you mean ");
-    page.put_code(name.name);
-    page.put(", declared here?");
-    page.end_line();
-}
-
-/// The nearest of some names, by its number.
-fn nearest_of(names: &[Declared<'_>], word: &str) -> Option<usize> {
-    let mut nearest = Nearest::to(word);
-    for (number, name) in names.iter().enumerate() {
-        nearest.look_at(name.name, Some(number));
+/// The nearest of some names.
+fn nearest_of<'t>(page: &Page, names: &[Declared<'t>], word: &str) -> Option<Declared<'t>> {
+    let mut nearest = Nearest::to(page.alloc(), word);
+    let mut found = None;
+    for name in names {
+        if nearest.finds(name.name) {
+            found = Some(*name);
+        }
     }
-    let (_, number) = nearest.found()?;
-    number
-}
-
-/// Whether a word is near to `object`, the type that is declared nowhere.
-fn is_near_object(word: &str) -> bool {
-    let mut nearest = Nearest::to(word);
-    nearest.look_at("object", None);
-    nearest.found().is_some()
+    found
 }
 
 /// Whether a name stands before a number among names.
@@ -49,9 +35,7 @@ fn put_names(page: &mut Page, kind: Kind, names: &[Declared<'_>]) {
     if kind == Kind::Variable {
         page.put("note: variables in scope: ");
     } else {
-        page.put("note: declared ");
-        page.put(kind.word());
-        page.put("s: ");
+        put!(page; "note: declared {kind}s: ");
     }
     let mut count = 0usize;
     for (number, name) in names.iter().enumerate() {
@@ -62,16 +46,15 @@ fn put_names(page: &mut Page, kind: Kind, names: &[Declared<'_>]) {
             page.put(" ..");
             break;
         }
-        page.put(if count == 0 { "" } else { ", " });
-        page.put_code(name.name);
+        put!(page; "{}`{}`", if count == 0 { "" } else { ", " }, name.name);
         count = count.saturating_add(1);
     }
-    page.end_line();
+    page.put("\n");
 }
 
 /// Puts the nearest of some names that are declared as a kind; or, where there is none and it is
 /// wished for, a list of them.
-pub fn put_near<'t>(
+fn put_near<'t>(
     page: &mut Page,
     world: &World<'t>,
     kind: Kind,
@@ -79,30 +62,18 @@ pub fn put_near<'t>(
     word: &str,
     lists: bool,
 ) {
-    if let Some(name) = nearest_of(names, word).and_then(|number| names.get(number)) {
-        put_did_you_mean(page, world, name);
-    } else if kind == Kind::Type && is_near_object(word) {
-        page.put("help: did you mean `object`?");
-        page.end_line();
+    if let Some(name) = nearest_of(page, names, word) {
+        put!(page; "{}help: did you mean `{}`, declared here?\n",
+            At(world.source_of(&name), name.at), name.name);
+    } else if kind == Kind::Type && Nearest::to(page.alloc(), word).finds("object") {
+        page.put("help: did you mean `object`?\n");
     } else if lists {
         put_names(page, kind, names);
     }
 }
 
-/// A kind with its article.
-fn with_article(kind: Kind) -> &'static str {
-    match kind {
-        Kind::Type => "a type",
-        Kind::Predicate => "a predicate",
-        Kind::Function => "a function",
-        Kind::Object => "an object",
-        Kind::Variable => "a variable",
-        Kind::Action => "an action",
-    }
-}
-
 /// What a word that is not declared as a kind is declared as instead.
-pub fn other_kind<'t>(
+fn other_kind<'t>(
     alloc: Global,
     world: &World<'t>,
     kind: Kind,
@@ -120,11 +91,32 @@ pub fn other_kind<'t>(
     Ok(None)
 }
 
-/// Puts the words of a headline for a name of another kind.
-pub fn put_other_kind(page: &mut Page, kind: Kind, word: &str, other: Kind) {
-    page.put_code(word);
-    page.put(" is no ");
-    page.put(kind.word());
-    page.put(", but ");
-    page.put(with_article(other));
+/// Puts that no name of a kind is this one, and the nearest that is or, if that is wished for, a
+/// list; or that the name is of another kind.
+pub fn put_no_name<'t>(
+    page: &mut Page,
+    world: &World<'t>,
+    source: Source<'_>,
+    kind: Kind,
+    names: &[Declared<'t>],
+    word: &str,
+    at: usize,
+    lists: bool,
+) -> Result<(), AllocError> {
+    if kind != Kind::Variable {
+        if let Some((other, name)) = other_kind(page.alloc(), world, kind, word)? {
+            let article = if other == Kind::Object { "an" } else { "a" };
+            error_at!(page, source, at; "`{word}` is no {kind}, but {article} {other}");
+            put!(page; "{}note: it is declared here\n", At(world.source_of(&name), name.at));
+            return Ok(());
+        }
+    }
+    let scope = if kind == Kind::Variable {
+        " in scope"
+    } else {
+        ""
+    };
+    error_at!(page, source, at; "no {kind}{scope} is named `{word}`");
+    put_near(page, world, kind, names, word, lists);
+    Ok(())
 }

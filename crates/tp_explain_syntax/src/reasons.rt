@@ -1,8 +1,7 @@
 //! What may be wrong with a list, and how it is worded.
 
-use tp_explain_text::{
-    Nearest, Page, Source, Tree, end_headline, place_of, put_error_at, put_list, put_tree,
-};
+use std::fmt;
+use tp_explain_text::{Brief, Nearest, Page, Source, Tree, Words, error_at, put};
 
 /// What was found where something else was wanted.
 #[derive(Clone, Copy)]
@@ -10,6 +9,16 @@ pub enum Found<'t> {
     Tree(&'t Tree),
     List(&'t [Tree]),
     Nothing,
+}
+
+impl fmt::Display for Found<'_> {
+    fn fmt<W: fmt::Write>(&self, f: &mut fmt::Formatter<W>) -> fmt::Result {
+        match *self {
+            Found::Tree(tree) => write!(f, "`{tree}`"),
+            Found::List(items) => write!(f, "`{}`", Brief(items)),
+            Found::Nothing => write!(f, "nothing"),
+        }
+    }
 }
 
 /// What is wrong.
@@ -30,6 +39,33 @@ pub enum What<'t> {
     Takes(&'t str, &'static str, usize),
     /// `?duration` as a variable that is declared.
     Duration,
+}
+
+impl fmt::Display for What<'_> {
+    fn fmt<W: fmt::Write>(&self, f: &mut fmt::Formatter<W>) -> fmt::Result {
+        match *self {
+            What::Expected(form, found) => write!(f, "expected {form}, found {found}"),
+            What::ExpectedBehind(form, before, found) => {
+                write!(
+                    f,
+                    "expected {form} behind `{}`, found {found}",
+                    Words(before)
+                )
+            }
+            What::NoSection(word) => write!(f, "no section is named `{word}`"),
+            What::NoField(word, true) => write!(f, "`{word}` is no field of a durative action"),
+            What::NoField(word, false) => write!(f, "`{word}` is no field of an action"),
+            What::NoName(true) => write!(f, "the durative action has no name"),
+            What::NoName(false) => write!(f, "the action has no name"),
+            What::NoDuration(name) => write!(f, "the durative action `{name}` has no `:duration`"),
+            What::NoValue(word) => write!(f, "`{word}` has no value"),
+            What::NoGoal => write!(f, "the problem has no `(:goal ..)`"),
+            What::Takes(operator, wanted, count) => {
+                write!(f, "`{operator}` takes {wanted}, not {count}")
+            }
+            What::Duration => write!(f, "`?duration` is no variable that can be declared"),
+        }
+    }
 }
 
 /// What can be written in its place.
@@ -73,7 +109,7 @@ impl<'t> Reason<'t> {
     /// A form was wanted, and a tree was found.
     pub fn expected(form: &'static str, tree: &'t Tree) -> Reason<'t> {
         let found = Found::Tree(tree);
-        Reason::new(place_of(tree), What::Expected(form, found))
+        Reason::new(tree.place(), What::Expected(form, found))
     }
 
     /// A form was wanted, and the list that begins there was found.
@@ -100,163 +136,51 @@ pub static FIELDS: [&str; 3] = [":parameters", ":precondition", ":effect"];
 
 pub static DURATIVE_FIELDS: [&str; 4] = [":parameters", ":duration", ":condition", ":effect"];
 
-fn put_found(page: &mut Page, found: Found<'_>) {
-    page.put(", found ");
-    match found {
-        Found::Tree(tree) => {
-            page.put("`");
-            put_tree(page, tree);
-            page.put("`");
-        }
-        Found::List(items) => {
-            page.put("`");
-            put_list(page, items);
-            page.put("`");
-        }
-        Found::Nothing => page.put("nothing"),
-    }
-}
-
-fn put_list_words(page: &mut Page, items: &[Tree]) {
-    page.put("(");
-    for (number, tree) in items.iter().enumerate() {
-        if number > 0 {
-            page.put(" ");
-        }
-        put_tree(page, tree);
-    }
-    page.put(")");
-}
-
-fn put_what(page: &mut Page, what: What<'_>) {
-    match what {
-        What::Expected(form, found) => {
-            page.put("expected ");
-            page.put(form);
-            put_found(page, found);
-        }
-        What::ExpectedBehind(form, before, found) => {
-            page.put("expected ");
-            page.put(form);
-            page.put(" behind `");
-            put_list_words(page, before);
-            page.put("`");
-            put_found(page, found);
-        }
-        What::NoSection(word) => {
-            page.put("no section is named ");
-            page.put_code(word);
-        }
-        What::NoField(word, lasts) => {
-            page.put_code(word);
-            page.put(if lasts {
-                " is no field of a durative action"
-            } else {
-                " is no field of an action"
-            });
-        }
-        other => put_lack(page, other),
-    }
-}
-
-fn put_lack(page: &mut Page, what: What<'_>) {
-    match what {
-        What::NoName(lasts) => page.put(if lasts {
-            "the durative action has no name"
-        } else {
-            "the action has no name"
-        }),
-        What::NoDuration(name) => {
-            page.put("the durative action ");
-            page.put_code(name);
-            page.put(" has no `:duration`");
-        }
-        What::NoValue(word) => {
-            page.put_code(word);
-            page.put(" has no value");
-        }
-        What::NoGoal => page.put("the problem has no `(:goal ..)`"),
-        What::Takes(operator, wanted, count) => {
-            page.put_code(operator);
-            page.put(" takes ");
-            page.put(wanted);
-            page.put(", not ");
-            page.put_number(u64::try_from(count).unwrap_or(u64::MAX));
-        }
-        _ => page.put("`?duration` is no variable that can be declared"),
-    }
-}
-
-fn put_note(page: &mut Page, reason: &Reason<'_>) {
-    if let What::NoField(_, lasts) = reason.what {
-        page.put(if lasts {
-            "note: its fields are `:parameters`, `:duration`, `:condition`, `:effect`"
-        } else {
-            "note: its fields are `:parameters`, `:precondition`, `:effect`"
-        });
-        page.end_line();
-    }
-    if !reason.note.is_empty() {
-        page.put("note: ");
-        page.put(reason.note);
-        page.end_line();
-    }
-}
-
+/// Puts the nearest of some words.
 fn put_near(page: &mut Page, word: &str, names: &'static [&'static str]) {
-    let mut nearest = Nearest::to(word);
+    let mut nearest = Nearest::to(page.alloc(), word);
+    let mut found = None;
     for name in names {
-        nearest.look_at(*name, None);
+        if nearest.finds(name) {
+            found = Some(*name);
+        }
     }
-    if let Some((name, _)) = nearest.found() {
-        page.put("help: did you mean ");
-        page.put_code(name);
-        page.put("?");
-        page.end_line();
+    if let Some(name) = found {
+        put!(page; "help: did you mean `{name}`?\n");
     }
 }
 
-fn put_help_when(page: &mut Page, items: &[Tree], effect: bool) {
-    page.put("help: say when: `(at start ");
-    put_list(page, items);
-    page.put(if effect {
-        ")`, or the other"
-    } else {
-        ")`, or one of the others"
-    });
-    page.end_line();
-}
-
+/// Puts what can be written instead.
 fn put_help(page: &mut Page, help: Help<'_>) {
     match help {
         Help::Nothing => {}
         Help::Near(word, names) => put_near(page, word, names),
-        Help::When(items, effect) => put_help_when(page, items, effect),
-        Help::Text(text) => {
-            page.put("help: ");
-            page.put(text);
-            page.end_line();
+        Help::When(items, true) => {
+            put!(page; "help: say when: `(at start {})`, or the other\n", Brief(items));
         }
-        Help::InList(word) => put_written(page, "(", word, ")"),
-        Help::Behind(sign, word) => put_written(page, sign, word, ""),
-        Help::OfDomain(name) => put_written(page, "(:domain ", name, ")"),
+        Help::When(items, false) => {
+            put!(page; "help: say when: `(at start {})`, or one of the others\n", Brief(items));
+        }
+        Help::Text(text) => put!(page; "help: {text}\n"),
+        Help::InList(word) => put!(page; "help: write `({word})`\n"),
+        Help::Behind(sign, word) => put!(page; "help: write `{sign}{word}`\n"),
+        Help::OfDomain(name) => put!(page; "help: write `(:domain {name})`\n"),
     }
-}
-
-fn put_written(page: &mut Page, before: &str, word: &str, behind: &str) {
-    page.put("help: write `");
-    page.put(before);
-    page.put(word);
-    page.put(behind);
-    page.put("`");
-    page.end_line();
 }
 
 /// Puts what is wrong at a place of a text.
 pub fn put_reason(page: &mut Page, source: Source<'_>, reason: &Reason<'_>) {
-    put_error_at(page, source, reason.at);
-    put_what(page, reason.what);
-    end_headline(page, source, reason.at);
-    put_note(page, reason);
+    error_at!(page, source, reason.at; "{}", reason.what);
+    if let What::NoField(_, lasts) = reason.what {
+        page.put("note: its fields are ");
+        page.put(if lasts {
+            "`:parameters`, `:duration`, `:condition`, `:effect`\n"
+        } else {
+            "`:parameters`, `:precondition`, `:effect`\n"
+        });
+    }
+    if !reason.note.is_empty() {
+        put!(page; "note: {}\n", reason.note);
+    }
     put_help(page, reason.help);
 }

@@ -3,7 +3,7 @@
 use crate::bodies::{CONDITION, CONSTRAINT, EFFECT, TIMED_CONDITION, TIMED_EFFECT};
 use crate::reasons::{DURATIVE_FIELDS, FIELDS, Found, Help, NAME_NOTE, Reason, What};
 use crate::typed_lists::typed_reason;
-use tp_explain_text::{Step, Tree, head_word, is_dash, is_list, place_of, word_of};
+use tp_explain_text::{Step, Tree, head_of};
 use tp_syntax_ast::{Key, is_name, key_of};
 
 const SIGNATURE: &str = "`(NAME VARIABLE ..)`";
@@ -35,22 +35,23 @@ static PROBLEM_SECTIONS: [&str; 6] = [
 
 /// The first word among the members from a number on.
 pub fn first_word<'t>(items: &'t [Tree], from: usize) -> Option<&'t Tree> {
-    items.get(from..)?.iter().find(|tree| !is_list(*tree))
+    items.get(from..)?.iter().find(|tree| !tree.is_list())
 }
 
 /// The word in parentheses, if it is a name.
 pub fn in_list<'t>(tree: &'t Tree) -> Help<'t> {
-    match word_of(tree) {
-        Some(word) if is_name(word.as_bytes()) => Help::InList(word),
-        _ => Help::Nothing,
+    if is_name(tree.word().as_bytes()) {
+        return Help::InList(tree.word());
     }
+    Help::Nothing
 }
 
 /// What is wrong with a list that is no section.
 pub fn no_section_reason<'t>(step: &Step<'t>, in_problem: bool) -> Option<Reason<'t>> {
-    let Some(word) = head_word(step.items) else {
+    let word = head_of(step.items);
+    if word.is_empty() {
         return Some(Reason::expected_list(step.start, "a section", step.items));
-    };
+    }
     let names: &'static [&'static str] = if in_problem {
         &PROBLEM_SECTIONS
     } else {
@@ -63,7 +64,7 @@ pub fn no_section_reason<'t>(step: &Step<'t>, in_problem: bool) -> Option<Reason
 /// What is wrong with the words of `:requirements`.
 pub fn requirements_reason<'t>(step: &Step<'t>) -> Option<Reason<'t>> {
     for tree in step.items.get(1..)? {
-        let word = word_of(tree).unwrap_or("");
+        let word = tree.word();
         if word.as_bytes().first() == Some(&b':') {
             continue;
         }
@@ -90,9 +91,9 @@ pub fn functions_reason<'t>(step: &Step<'t>) -> Option<Reason<'t>> {
         if after_dash {
             after_dash = false;
             may_end = false;
-        } else if may_end && is_dash(tree) {
+        } else if may_end && tree.is("-") {
             after_dash = true;
-        } else if !is_list(tree) {
+        } else if !tree.is_list() {
             return Some(Reason::expected(SIGNATURE, tree).with_help(in_list(tree)));
         } else {
             may_end = true;
@@ -103,16 +104,16 @@ pub fn functions_reason<'t>(step: &Step<'t>) -> Option<Reason<'t>> {
     }
     let what = What::Expected("`number` behind `-`", Found::Nothing);
     let dash = step.items.last()?;
-    Some(Reason::new(place_of(dash), what))
+    Some(Reason::new(dash.place(), what))
 }
 
 /// What is wrong with the declaration of a predicate or a function.
 pub fn signature_reason<'t>(step: &Step<'t>) -> Option<Reason<'t>> {
     match step.items.first() {
-        Some(Tree::Word(name)) if is_name(name.text.as_str().as_bytes()) => {
+        Some(name) if is_name(name.word().as_bytes()) => {
             typed_reason(step.items.get(1..)?, true)
         }
-        Some(name) if !is_list(name) => {
+        Some(name) if !name.is_list() => {
             Some(Reason::expected("a name", name).with_note(NAME_NOTE))
         }
         _ => Some(Reason::expected_list(step.start, SIGNATURE, step.items)),
@@ -146,19 +147,17 @@ fn is_field_of(lasts: bool, key: Key) -> bool {
 
 /// The key that a tree is the word of.
 fn key_at(tree: &Tree) -> Option<Key> {
-    match tree {
-        Tree::Word(word) => key_of(word.text.as_str()),
-        Tree::List { .. } => None,
-    }
+    key_of(tree.word())
 }
 
 /// What is wrong with the word of a field.
 fn no_field<'t>(tree: &'t Tree, lasts: bool) -> Reason<'t> {
-    let Some(word) = word_of(tree) else {
+    let word = tree.word();
+    if word.is_empty() {
         return Reason::expected("a field", tree);
-    };
+    }
     let names: &'static [&'static str] = if lasts { &DURATIVE_FIELDS } else { &FIELDS };
-    let reason = Reason::new(place_of(tree), What::NoField(word, lasts));
+    let reason = Reason::new(tree.place(), What::NoField(word, lasts));
     // That of the other kind of action has the same meaning, and no near name.
     reason.with_help(match key_of(word) {
         Some(Key::Precondition) => Help::Text("did you mean `:condition`?"),
@@ -176,8 +175,8 @@ fn pair_reason<'t>(pair: &'t [Tree], lasts: bool) -> Option<Reason<'t>> {
     match pair.get(1) {
         Some(value) if key_at(value).is_none() => None,
         _ => {
-            let what = What::NoValue(word_of(field)?);
-            Some(Reason::new(place_of(field), what))
+            let what = What::NoValue(field.word());
+            Some(Reason::new(field.place(), what))
         }
     }
 }
@@ -211,7 +210,7 @@ fn fields_reason<'t>(fields: &'t [Tree], lasts: bool) -> Option<Reason<'t>> {
 fn word_value<'t>(fields: &'t [Tree], wanted: Key) -> Option<&'t Tree> {
     for pair in fields.chunks(2) {
         if let [field, value] = pair {
-            if key_at(field) == Some(wanted) && !is_list(value) {
+            if key_at(field) == Some(wanted) && !value.is_list() {
                 return Some(value);
             }
         }
@@ -245,7 +244,7 @@ fn durative_reason<'t>(step: &Step<'t>, fields: &'t [Tree]) -> Option<Reason<'t>
     if !fields.chunks(2).any(|pair| pair.first().and_then(|field| key_at(field))
         == Some(Key::Duration))
     {
-        let what = What::NoDuration(word_of(step.items.get(1)?)?);
+        let what = What::NoDuration(step.items.get(1)?.word());
         return Some(Reason::new(step.start, what).with_help(Help::Text(DURATION)));
     }
     let duration = value_reason(fields, Key::Duration, CONSTRAINT);
@@ -260,12 +259,11 @@ pub fn action_reason<'t>(step: &Step<'t>, lasts: bool) -> Option<Reason<'t>> {
     let Some(name) = step.items.get(1) else {
         return Some(unnamed);
     };
-    match name {
-        Tree::Word(word) if is_name(word.text.as_str().as_bytes()) => {}
-        Tree::Word(word) if word.text.as_str().as_bytes().first() != Some(&b':') => {
-            return Some(Reason::expected("a name", name).with_note(NAME_NOTE));
-        }
-        _ => return Some(unnamed),
+    if name.is_list() || name.word().starts_with(':') {
+        return Some(unnamed);
+    }
+    if !is_name(name.word().as_bytes()) {
+        return Some(Reason::expected("a name", name).with_note(NAME_NOTE));
     }
     let fields = step.items.get(2..)?;
     if let Some(reason) = fields_reason(fields, lasts) {

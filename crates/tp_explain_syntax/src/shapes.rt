@@ -1,6 +1,7 @@
 //! What is wrong with the list around which a shape is at fault.
 
 use crate::bodies::{condition_reason, constraint_reason, effect_reason, timed_reason};
+use crate::declarations::{Fault, items_at, word_at};
 use crate::expressions::expression_reason;
 use crate::initial::{init_reason, initial_reason, only_atom_reason};
 use crate::reasons::{Reason, put_reason};
@@ -10,8 +11,8 @@ use crate::sections::{
 };
 use crate::texts::{domain_reason, head_reason, of_domain_reason, problem_reason, word_reason};
 use crate::typed_lists::{typed_reason, types_reason};
-use std::alloc::{AllocError, Global};
-use tp_explain_text::{Page, Role, Step, Symbol, Text, is_list, path_to};
+use std::alloc::AllocError;
+use tp_explain_text::{Page, Role, Step, Symbol};
 use tp_syntax_ast::{ProblemSection, Section};
 
 /// Whether a place is in a durative action.
@@ -62,11 +63,7 @@ fn body_reason<'t>(step: &Step<'t>, lasts: bool) -> Option<Reason<'t>> {
 }
 
 /// What is wrong with the innermost list of a path.
-fn reason_of<'t>(
-    path: &[Step<'t>],
-    in_problem: bool,
-    domain: Option<&'t str>,
-) -> Option<Reason<'t>> {
+fn reason_of<'t>(path: &[Step<'t>], in_problem: bool, domain: &'t str) -> Option<Reason<'t>> {
     let (step, outer) = path.split_last()?;
     let found = match step.role {
         Role::Domain => domain_reason(step),
@@ -84,26 +81,15 @@ fn reason_of<'t>(
     }
 }
 
-/// Puts what is wrong with the list at a place of a text, whose shape is at fault; `domain` is the
-/// name of the domain, for a problem.
-pub fn put_shape<'t>(
-    alloc: Global,
-    page: &mut Page,
-    text: Text<'t>,
-    in_problem: bool,
-    at: usize,
-    domain: Option<&'t str>,
-) -> Result<(), AllocError> {
-    if !is_list(text.tree) {
+/// Puts what is wrong with the list at a place of a text, whose shape is at fault.
+pub fn put_shape(page: &mut Page, fault: &Fault<'_>) -> Result<(), AllocError> {
+    let (text, in_problem) = (fault.text, fault.in_problem);
+    if !text.tree.is_list() {
         put_reason(page, text.source, &word_reason(text.tree, in_problem));
         return Ok(());
     }
-    let role = if in_problem {
-        Role::Problem
-    } else {
-        Role::Domain
-    };
-    let path = path_to(alloc, text.tree, role, at)?;
+    let path = fault.path(page.alloc())?;
+    let domain = word_at(items_at(fault.world.domain.tree.items(), 1), 1);
     if let Some(reason) = reason_of(path.as_slice(), in_problem, domain) {
         put_reason(page, text.source, &reason);
     }

@@ -2,7 +2,7 @@
 
 use crate::reasons::{Found, Help, NAME_NOTE, Reason, What};
 use crate::sections::first_word;
-use tp_explain_text::{Step, Tree, head_word, is_list, is_the_word, items_of, place_of};
+use tp_explain_text::{Step, Tree, head_of};
 use tp_syntax_ast::{ProblemSection, is_name, problem_section_of};
 
 const DOMAIN: &str = "`(define (domain NAME) ..)`";
@@ -32,12 +32,12 @@ fn text_reason<'t>(
     sections: usize,
 ) -> Option<Reason<'t>> {
     match step.items {
-        [first, ..] if is_the_word(first, "define") => {}
+        [first, ..] if first.is("define") => {}
         items => return Some(Reason::expected_list(step.start, form, items)),
     }
     match step.items.get(1) {
         None => Some(Reason::new(step.start, What::Expected(name, Found::Nothing))),
-        Some(head) if !is_list(head) => Some(Reason::expected(name, head)),
+        Some(head) if !head.is_list() => Some(Reason::expected(name, head)),
         Some(_) => {
             let word = first_word(step.items, sections)?;
             Some(Reason::expected(SECTION, word))
@@ -52,14 +52,7 @@ pub fn domain_reason<'t>(step: &Step<'t>) -> Option<Reason<'t>> {
 
 /// Whether a section of a problem is its goal.
 fn is_goal(tree: &Tree) -> bool {
-    match tree {
-        Tree::List { items, .. } => match items.first() {
-            Some(Tree::Word(word)) => problem_section_of(word.text.as_str())
-                == Some(ProblemSection::Goal),
-            _ => false,
-        },
-        Tree::Word(_) => false,
-    }
+    problem_section_of(tree.head()) == Some(ProblemSection::Goal)
 }
 
 /// What is wrong with the list that a problem is.
@@ -67,15 +60,15 @@ pub fn problem_reason<'t>(step: &Step<'t>) -> Option<Reason<'t>> {
     if let Some(reason) = text_reason(step, PROBLEM, PROBLEM_NAME, step.items.len()) {
         return Some(reason);
     }
-    let head = items_of(step.items.get(1)?);
+    let head = (step.items.get(1)?).items();
     match step.items.get(2) {
         None => {
             let what = What::ExpectedBehind(OF_DOMAIN, head, Found::Nothing);
             return Some(Reason::new(step.start, what));
         }
-        Some(of) if !is_list(of) => {
+        Some(of) if !of.is_list() => {
             let what = What::ExpectedBehind(OF_DOMAIN, head, Found::Tree(of));
-            return Some(Reason::new(place_of(of), what));
+            return Some(Reason::new(of.place(), what));
         }
         Some(_) => {}
     }
@@ -91,16 +84,16 @@ pub fn problem_reason<'t>(step: &Step<'t>) -> Option<Reason<'t>> {
 /// What is wrong with a name behind its word.
 fn name_reason<'t>(step: &Step<'t>) -> Option<Reason<'t>> {
     let name = step.items.get(1)?;
-    match name {
-        Tree::Word(word) if is_name(word.text.as_str().as_bytes()) => None,
-        _ => Some(Reason::expected("a name", name).with_note(NAME_NOTE)),
+    if is_name(name.word().as_bytes()) {
+        return None;
     }
+    Some(Reason::expected("a name", name).with_note(NAME_NOTE))
 }
 
 /// Whether a list is a word and one thing more.
 fn is_pair(items: &[Tree], word: &str) -> bool {
     match items {
-        [head, _] => is_the_word(head, word),
+        [head, _] => head.is(word),
         _ => false,
     }
 }
@@ -121,26 +114,26 @@ pub fn head_reason<'t>(step: &Step<'t>, in_problem: bool) -> Option<Reason<'t>> 
         DOMAIN_NAME
     };
     let reason = Reason::expected_list(step.start, form, step.items);
-    match head_word(step.items) {
-        Some(word) if word.eq_ignore_ascii_case(other) => Some(reason.with_help(Help::Text(ORDER))),
-        _ => Some(reason),
+    if head_of(step.items).eq_ignore_ascii_case(other) {
+        return Some(reason.with_help(Help::Text(ORDER)));
     }
+    Some(reason)
 }
 
 /// What is wrong with `(:domain NAME)` of a problem, in the list of the step before.
 pub fn of_domain_reason<'t>(
     step: &Step<'t>,
     outer: Option<&Step<'t>>,
-    domain: Option<&'t str>,
+    domain: &'t str,
 ) -> Option<Reason<'t>> {
     if is_pair(step.items, ":domain") {
         return name_reason(step);
     }
-    let head = items_of(outer?.items.get(1)?);
+    let head = (outer?.items.get(1)?).items();
     let what = What::ExpectedBehind(OF_DOMAIN, head, Found::List(step.items));
     let reason = Reason::new(step.start, what);
-    match domain {
-        Some(name) => Some(reason.with_help(Help::OfDomain(name))),
-        None => Some(reason),
+    if domain.is_empty() {
+        return Some(reason);
     }
+    Some(reason.with_help(Help::OfDomain(domain)))
 }

@@ -1,7 +1,7 @@
 //! What is wrong with typed lists.
 
 use crate::reasons::{Found, Help, NAME_NOTE, Reason, What};
-use tp_explain_text::{Tree, is_dash, is_list, is_the_word, place_of};
+use tp_explain_text::Tree;
 use tp_syntax_ast::is_name;
 
 const VARIABLE: &str = "a variable, which begins with `?`";
@@ -49,12 +49,10 @@ fn variable_reason<'t>(tree: &'t Tree, word: &'t str) -> Option<Reason<'t>> {
 
 /// What is wrong with an item, a variable or a name.
 fn item_reason<'t>(tree: &'t Tree, variables: bool) -> Option<Reason<'t>> {
-    let word = match tree {
-        Tree::Word(token) => token.text.as_str(),
-        Tree::List { .. } => {
-            return Some(Reason::expected(if variables { VARIABLE } else { "a name" }, tree));
-        }
-    };
+    if tree.is_list() {
+        return Some(Reason::expected(if variables { VARIABLE } else { "a name" }, tree));
+    }
+    let word = tree.word();
     if variables {
         if is_variable(word) {
             return None;
@@ -68,7 +66,7 @@ fn item_reason<'t>(tree: &'t Tree, variables: bool) -> Option<Reason<'t>> {
     if is_stuck_to_dash(word) {
         return Some(reason.with_help(Help::Text(BLANK)));
     }
-    if is_dash(tree) {
+    if tree.is("-") {
         return Some(reason);
     }
     Some(reason.with_note(NAME_NOTE))
@@ -76,12 +74,10 @@ fn item_reason<'t>(tree: &'t Tree, variables: bool) -> Option<Reason<'t>> {
 
 /// What is wrong with a word behind `-`.
 fn type_reason<'t>(tree: &'t Tree) -> Option<Reason<'t>> {
-    match tree {
-        Tree::Word(word) if !is_name(word.text.as_str().as_bytes()) => {
-            Some(Reason::expected(TYPE, tree).with_note(NAME_NOTE))
-        }
-        _ => None,
+    if tree.is_list() || is_name(tree.word().as_bytes()) {
+        return None;
     }
+    Some(Reason::expected(TYPE, tree).with_note(NAME_NOTE))
 }
 
 /// What is wrong with the typed list whose members these are.
@@ -93,8 +89,8 @@ pub fn typed_reason<'t>(trees: &'t [Tree], variables: bool) -> Option<Reason<'t>
             dash = None;
             waiting = false;
             type_reason(tree)
-        } else if waiting && is_dash(tree) {
-            dash = Some(place_of(tree));
+        } else if waiting && tree.is("-") {
+            dash = Some(tree.place());
             None
         } else {
             waiting = true;
@@ -116,8 +112,8 @@ pub fn typed_reason<'t>(trees: &'t [Tree], variables: bool) -> Option<Reason<'t>
 /// What is wrong with `?duration` among variables.
 fn duration_reason<'t>(trees: &'t [Tree]) -> Option<Reason<'t>> {
     for tree in trees {
-        if is_the_word(tree, "?duration") {
-            return Some(Reason::new(place_of(tree), What::Duration));
+        if tree.is("?duration") {
+            return Some(Reason::new(tree.place(), What::Duration));
         }
     }
     None
@@ -129,11 +125,11 @@ pub fn types_reason<'t>(items: &'t [Tree], start: usize, variables: bool) -> Opt
     let [first, types @ ..] = items else {
         return Some(Reason::expected_list(start, form, items));
     };
-    if !variables || !is_the_word(first, "either") {
+    if !variables || !first.is("either") {
         return Some(Reason::expected_list(start, form, items));
     }
     for tree in types {
-        if is_list(tree) {
+        if tree.is_list() {
             return Some(Reason::expected(TYPE, tree));
         }
         let reason = type_reason(tree);

@@ -2,7 +2,8 @@
 
 use crate::declarations::{Declared, Kind, World, declarations_of, find_named};
 use std::alloc::{AllocError, Global};
-use tp_explain_text::{Page, Tree, head_word, word_of};
+use std::fmt;
+use tp_explain_text::{Tree, Words};
 
 /// The types that a domain declares.
 #[derive(Drop)]
@@ -43,15 +44,15 @@ impl<'t> Types<'t> {
 /// The types that stand behind `-`: one word, or those of `(either TYPE ..)`.
 fn type_trees<'t>(types: Option<&'t Tree>) -> &'t [Tree] {
     match types {
-        Some(Tree::List { items, .. }) => items.as_slice().get(1..).unwrap_or(&[]),
-        _ => &[],
+        Some(tree) => tree.rest(),
+        None => &[],
     }
 }
 
 /// The type of one word that stands behind `-`, or `object`.
 fn first_type<'t>(types: Option<&'t Tree>) -> &'t str {
     match types {
-        Some(Tree::Word(token)) => token.text.as_str(),
+        Some(tree @ Tree::Word { .. }) => tree.word(),
         _ => "object",
     }
 }
@@ -63,7 +64,7 @@ fn is_below_one<'t>(types: &Types<'_>, below: &str, above: Option<&'t Tree>) -> 
         return types.is_below(below, first_type(above));
     }
     for tree in several {
-        if types.is_below(below, word_of(tree).unwrap_or("")) {
+        if types.is_below(below, tree.word()) {
             return true;
         }
     }
@@ -82,27 +83,22 @@ pub fn fits<'t>(
         return is_below_one(types, first_type(argument), parameter);
     }
     for tree in several {
-        if !is_below_one(types, word_of(tree).unwrap_or(""), parameter) {
+        if !is_below_one(types, tree.word(), parameter) {
             return false;
         }
     }
     true
 }
 
-/// Puts types as they are written behind `-`, between backticks.
-pub fn put_type<'t>(page: &mut Page, types: Option<&'t Tree>) {
-    page.put("`");
-    match types {
-        Some(Tree::List { items, .. }) => {
-            page.put("(");
-            page.put(head_word(items.as_slice()).unwrap_or(""));
-            for tree in items.as_slice().get(1..).unwrap_or(&[]) {
-                page.put(" ");
-                page.put(word_of(tree).unwrap_or(""));
-            }
-            page.put(")");
+/// Types as they are written behind `-`, between backticks.
+#[derive(Clone, Copy)]
+pub struct Typed<'t>(pub Option<&'t Tree>);
+
+impl fmt::Display for Typed<'_> {
+    fn fmt<W: fmt::Write>(&self, f: &mut fmt::Formatter<W>) -> fmt::Result {
+        match self.0 {
+            Some(tree @ Tree::List { .. }) => write!(f, "`{}`", Words(tree.items())),
+            types => write!(f, "`{}`", first_type(types)),
         }
-        _ => page.put(first_type(types)),
     }
-    page.put("`");
 }

@@ -11,66 +11,53 @@ pub struct FirstChar<'t> {
     pub rest: &'t [u8],
 }
 
-/// How many bytes a character has that begins with this one.
-fn width(first: u8) -> usize {
-    match first {
-        0..=127 => 1,
-        192..=223 => 2,
-        224..=239 => 3,
-        _ => 4,
-    }
-}
-
-/// The character of some bytes that are to be one.
-fn only_char(bytes: &[u8]) -> Option<char> {
-    from_utf8(bytes).ok()?.chars().next()
+/// The character that so many bytes at the front are, if they are one.
+fn char_of(bytes: &[u8], count: usize) -> Option<FirstChar<'_>> {
+    let front = bytes.get(..count)?;
+    Some(FirstChar {
+        found: Some(from_utf8(front).ok()?.chars().next()?),
+        bytes: front,
+        rest: bytes.get(count..)?,
+    })
 }
 
 /// What stands first among bytes, if there are any: a character (a Unicode scalar value), or a byte
 /// that begins none.
 pub fn first_char(bytes: &[u8]) -> Option<FirstChar<'_>> {
-    let [first, others @ ..] = bytes else {
-        return None;
+    let count = match bytes.first()? {
+        0..=127 => 1,
+        192..=223 => 2,
+        224..=239 => 3,
+        _ => 4,
     };
-    let count = width(*first);
-    if let (Some(front), Some(rest)) = (bytes.get(..count), bytes.get(count..)) {
-        if let Some(found) = only_char(front) {
-            return Some(FirstChar {
-                found: Some(found),
-                bytes: front,
-                rest,
-            });
-        }
-    }
-    Some(FirstChar {
+    let byte = FirstChar {
         found: None,
-        bytes: bytes.get(..1).unwrap_or(bytes),
-        rest: others,
-    })
+        bytes: bytes.get(..1)?,
+        rest: bytes.get(1..)?,
+    };
+    Some(char_of(bytes, count).unwrap_or(byte))
 }
 
 /// How many characters there are.
 pub(crate) fn count_chars(bytes: &[u8]) -> usize {
     let mut rest = bytes;
-    let mut count = 0usize;
-    for _ in 0..bytes.len() {
-        let Some(first) = first_char(rest) else {
-            break;
-        };
-        rest = first.rest;
-        count = count.saturating_add(1);
+    for count in 0..bytes.len() {
+        match first_char(rest) {
+            Some(first) => rest = first.rest,
+            None => return count,
+        }
     }
-    count
+    bytes.len()
 }
 
 /// What follows so many characters.
 pub(crate) fn after_chars(bytes: &[u8], count: usize) -> &[u8] {
     let mut rest = bytes;
     for _ in 0..count {
-        let Some(first) = first_char(rest) else {
-            break;
-        };
-        rest = first.rest;
+        match first_char(rest) {
+            Some(first) => rest = first.rest,
+            None => return rest,
+        }
     }
     rest
 }

@@ -10,22 +10,13 @@ const WIDEST: usize = 100;
 
 const BEFORE: usize = 60;
 
-/// Whether a word of a text may have a byte.
-fn is_of_word(byte: u8) -> bool {
-    match byte {
-        b'(' | b')' | b'[' | b']' | b';' => false,
-        _ => b'!' <= byte && byte <= b'~',
-    }
-}
-
-/// How many bytes of a word stand at the front.
+/// How many bytes at the front may be in a word of a text.
 fn word_len(bytes: &[u8]) -> usize {
-    for (count, byte) in bytes.iter().enumerate() {
-        if !is_of_word(*byte) {
-            return count;
-        }
-    }
-    bytes.len()
+    let end = bytes.iter().position(|byte| match *byte {
+        b'(' | b')' | b'[' | b']' | b';' => true,
+        byte => byte < b'!' || b'~' < byte,
+    });
+    end.unwrap_or(bytes.len())
 }
 
 /// How many characters are marked of what begins at a place: those of the word there, or the word
@@ -37,19 +28,15 @@ fn marked(bytes: &[u8]) -> usize {
     }
 }
 
-/// Whether a character is shown as it is.
-fn is_shown(found: char) -> bool {
-    found == '\t' || (!found.is_control() && found != '\u{feff}')
-}
-
-/// The part of a line that is shown.
+/// The part of a line that is shown: its bytes from its first character on, how many characters of
+/// them, before which one the caret stands, and whether some are left out.
 #[derive(Clone, Copy)]
 struct Shown<'t> {
     bytes: &'t [u8],
     count: usize,
+    caret: usize,
     is_cut_before: bool,
     is_cut_behind: bool,
-    caret: usize,
 }
 
 /// The part of a line that is shown around the character of a number.
@@ -64,67 +51,44 @@ fn part_around(line: &[u8], caret: usize) -> Shown<'_> {
     Shown {
         bytes: after_chars(line, first),
         count: left.min(WIDEST),
+        caret: caret.saturating_sub(first),
         is_cut_before: first > 0,
         is_cut_behind: left > WIDEST,
-        caret: caret.saturating_sub(first),
     }
 }
 
-/// Puts the characters that are shown.
-fn put_source(page: &mut Page, part: &Shown<'_>) {
-    page.put(if part.is_cut_before {
-        "    ..."
-    } else {
-        "    "
-    });
-    let mut rest = part.bytes;
-    for _ in 0..part.count {
+/// Puts at most so many characters; those that can't be shown are `?`.
+pub fn put_shown(page: &mut Page, bytes: &[u8], count: usize) {
+    let mut rest = bytes;
+    for _ in 0..count {
         let Some(first) = first_char(rest) else {
-            break;
+            return;
         };
         rest = first.rest;
         match first.found {
-            Some(found) if is_shown(found) => page.put_bytes(first.bytes),
+            Some(found) if found == '\t' || (!found.is_control() && found != '\u{feff}') => {
+                page.put(found);
+            }
             _ => page.put("?"),
         }
     }
-    page.put(if part.is_cut_behind { "..." } else { "" });
-    page.end_line();
 }
 
 /// Puts the caret under its character, and tildes as far as the mark goes on.
 fn put_caret(page: &mut Page, part: &Shown<'_>, length: usize) {
-    page.put(if part.is_cut_before {
-        "       "
-    } else {
-        "    "
-    });
     let mut rest = part.bytes;
     for _ in 0..part.caret {
-        let blank = match rest {
-            [b'\t', ..] => b'\t',
-            _ => b' ',
-        };
-        page.put_byte(blank);
+        page.put(if rest.first() == Some(&b'\t') {
+            "\t"
+        } else {
+            " "
+        });
         rest = after_chars(rest, 1);
     }
     page.put("^");
-    let room = part.count.saturating_sub(part.caret);
-    for _ in 1..length.min(room) {
+    for _ in 1..length.min(part.count.saturating_sub(part.caret)) {
         page.put("~");
     }
-    page.end_line();
-}
-
-/// A line without the blanks at its end.
-fn without_blanks(line: &[u8]) -> &[u8] {
-    let mut end = 0;
-    for (at, byte) in line.iter().enumerate() {
-        if *byte != b' ' && *byte != b'\t' {
-            end = at.saturating_add(1);
-        }
-    }
-    line.get(..end).unwrap_or(line)
 }
 
 /// Puts a line without its end, and the caret under a place in it. Blanks at the end of the line are
@@ -132,17 +96,32 @@ fn without_blanks(line: &[u8]) -> &[u8] {
 pub fn put_mark_of_line(page: &mut Page, line: &[u8], at: usize) {
     let before = line.get(..at).unwrap_or(line);
     let behind = line.get(at..).unwrap_or(&[]);
-    let part = part_around(without_blanks(line), count_chars(before));
-    put_source(page, &part);
+    let last = line
+        .iter()
+        .rposition(|byte| *byte != b' ' && *byte != b'\t');
+    let end = last.map_or(0, |last| last.saturating_add(1));
+    let part = part_around(line.get(..end).unwrap_or(line), count_chars(before));
+    page.put(if part.is_cut_before {
+        "    ..."
+    } else {
+        "    "
+    });
+    put_shown(page, part.bytes, part.count);
+    page.put(if part.is_cut_behind { "...\n" } else { "\n" });
+    page.put(if part.is_cut_before {
+        "       "
+    } else {
+        "    "
+    });
     put_caret(page, &part, marked(behind));
+    page.put("\n");
 }
 
 /// Puts the line of a place in a file, and the caret under the place. There is no line where the
 /// file ends behind an end of a line.
 pub fn put_mark(page: &mut Page, source: Source<'_>, place: usize) {
     let line = line_at(source.text, place);
-    if place >= source.text.len() && line.bytes.is_empty() {
-        return;
+    if place < source.text.len() || !line.bytes.is_empty() {
+        put_mark_of_line(page, line.bytes, line.at);
     }
-    put_mark_of_line(page, line.bytes, line.at);
 }

@@ -1,43 +1,52 @@
 //! Ticks, and the units of time that they make.
 
-use crate::page::Page;
+use crate::page::Count;
+use std::fmt;
 
-/// Puts the units that ticks make, with the decimals of the scale: 1, 10, 100 or 1000 ticks to a
-/// unit.
-pub fn put_units(page: &mut Page, scale: u32, ticks: u64) {
-    let scale = u64::from(scale.max(1));
-    page.put_number(ticks / scale);
-    let mut digit = scale / 10;
-    if digit > 0 {
-        page.put(".");
-    }
-    for _ in 0..3 {
-        if digit == 0 {
-            break;
+/// The units that ticks make, with the decimals of the scale: 1, 10, 100 or 1000 ticks to a unit.
+#[derive(Clone, Copy)]
+pub struct Units(pub u32, pub u64);
+
+impl fmt::Display for Units {
+    fn fmt<W: fmt::Write>(&self, f: &mut fmt::Formatter<W>) -> fmt::Result {
+        let Units(scale, ticks) = *self;
+        match scale {
+            10 => write!(f, "{}.{}", ticks / 10, ticks % 10),
+            100 => write!(f, "{}.{:02}", ticks / 100, ticks % 100),
+            1000 => write!(f, "{}.{:03}", ticks / 1000, ticks % 1000),
+            _ => write!(f, "{ticks}"),
         }
-        page.put_number(ticks / digit % 10);
-        digit /= 10;
     }
 }
 
-/// Puts the units of ticks in parentheses, where a unit has more than one.
-fn put_units_behind(page: &mut Page, scale: u32, ticks: u64) {
-    if scale > 1 {
-        page.put(" (");
-        put_units(page, scale, ticks);
-        page.put(")");
+/// A moment under a scale, as `tick 26` or `tick 2600 (26.00)`.
+#[derive(Clone, Copy)]
+pub struct Moment(pub u32, pub u64);
+
+impl fmt::Display for Moment {
+    fn fmt<W: fmt::Write>(&self, f: &mut fmt::Formatter<W>) -> fmt::Result {
+        let Moment(scale, tick) = *self;
+        write!(f, "tick {tick}")?;
+        if scale > 1 {
+            write!(f, " ({})", Units(scale, tick))
+        } else {
+            Ok(())
+        }
     }
 }
 
-/// Puts a moment, as `tick 26` or `tick 2600 (26.00)`.
-pub fn put_moment(page: &mut Page, scale: u32, tick: u64) {
-    page.put("tick ");
-    page.put_number(tick);
-    put_units_behind(page, scale, tick);
-}
+/// So many ticks under a scale, as `5 ticks` or `1 tick (0.1)`.
+#[derive(Clone, Copy)]
+pub struct Ticks(pub u32, pub u64);
 
-/// Puts so many ticks, as `5 ticks` or `1 tick (0.1)`.
-pub fn put_ticks(page: &mut Page, scale: u32, ticks: u64) {
-    page.put_count(ticks, "tick", "ticks");
-    put_units_behind(page, scale, ticks);
+impl fmt::Display for Ticks {
+    fn fmt<W: fmt::Write>(&self, f: &mut fmt::Formatter<W>) -> fmt::Result {
+        let Ticks(scale, ticks) = *self;
+        write!(f, "{}", Count(ticks, "tick", "ticks"))?;
+        if scale > 1 {
+            write!(f, " ({})", Units(scale, ticks))
+        } else {
+            Ok(())
+        }
+    }
 }

@@ -1,15 +1,14 @@
 //! The lines of explanations as they are put together.
 
-use crate::chars::first_char;
-use itoa::Buffer;
 use std::alloc::Global;
+use std::fmt;
 
 /// The lines of explanations. Where memory is refused, it takes no more, and only whole lines
 /// count.
 #[derive(Drop)]
 pub struct Page {
+    alloc: Global,
     bytes: Vec<u8>,
-    whole: usize,
     full: bool,
 }
 
@@ -17,10 +16,15 @@ impl Page {
     /// A page without lines. It takes no memory yet.
     pub fn new(alloc: Global) -> Page {
         Page {
+            alloc,
             bytes: Vec::new(alloc),
-            whole: 0,
             full: false,
         }
+    }
+
+    /// Where memory comes from.
+    pub fn alloc(&self) -> Global {
+        self.alloc
     }
 
     /// Puts bytes of a text as they are.
@@ -30,96 +34,77 @@ impl Page {
         }
     }
 
-    /// Puts a text as it is.
-    pub fn put(&mut self, text: &str) {
-        self.put_bytes(text.as_bytes());
-    }
-
-    /// Puts a byte of ASCII.
-    pub fn put_byte(&mut self, byte: u8) {
-        self.put_bytes(&[byte]);
-    }
-
-    /// Puts a text, its capital letters made small.
-    pub fn put_lower(&mut self, text: &str) {
-        for byte in text.as_bytes() {
-            self.put_byte(byte.to_ascii_lowercase());
-        }
-    }
-
-    /// Puts a word of a text between backticks.
-    pub fn put_code(&mut self, word: &str) {
-        self.put("`");
-        self.put(word);
-        self.put("`");
-    }
-
-    /// Puts a number.
-    pub fn put_number(&mut self, number: u64) {
-        self.put(Buffer::new().format(number));
-    }
-
-    /// Puts a signed number.
-    pub fn put_signed(&mut self, number: i64) {
-        self.put(Buffer::new().format(number));
-    }
-
-    /// Puts a number and the word for one or for more.
-    pub fn put_count(&mut self, number: u64, one: &str, more: &str) {
-        self.put_number(number);
-        self.put(" ");
-        self.put(if number == 1 { one } else { more });
-    }
-
-    /// Puts a text of at most so many characters; a longer one is cut, and ends in three dots.
-    pub fn put_cut(&mut self, text: &str, most: usize) {
-        let bytes = text.as_bytes();
-        let Some(end) = end_of_chars(bytes, most.saturating_sub(3)) else {
-            self.put(text);
-            return;
-        };
-        match end_of_chars(bytes, most) {
-            None => self.put(text),
-            Some(_) => {
-                self.put_bytes(bytes.get(..end).unwrap_or(bytes));
-                self.put("...");
-            }
-        }
-    }
-
-    /// Ends the line in hand: it counts from now on.
-    pub fn end_line(&mut self) {
-        self.put("\n");
-        if !self.full {
-            self.whole = self.bytes.len();
-        }
-    }
-
-    /// Whether memory was refused.
-    pub fn is_full(&self) -> bool {
-        self.full
+    /// Puts what something prints.
+    pub fn put<D: fmt::Display + Drop>(&mut self, text: D) {
+        let _ = fmt::Write::write(self, text);
     }
 
     /// The whole lines.
     pub fn as_bytes(&self) -> &[u8] {
-        self.bytes.get(..self.whole).unwrap_or(&[])
+        match self.bytes.iter().rposition(|byte| *byte == b'\n') {
+            Some(last) => self.bytes.get(..=last).unwrap_or(&[]),
+            None => &[],
+        }
     }
 
     /// Drops all lines. What was refused stays so.
     pub fn clear(&mut self) {
         self.bytes.clear();
-        self.whole = 0;
     }
 }
 
-/// Where so many characters end, if there are more.
-fn end_of_chars(bytes: &[u8], count: usize) -> Option<usize> {
-    let mut rest = bytes;
-    for _ in 0..count {
-        rest = first_char(rest)?.rest;
+impl fmt::Write for Page {
+    fn write_str(&mut self, text: &str) -> fmt::Result {
+        self.put_bytes(text.as_bytes());
+        Ok(())
     }
-    if rest.is_empty() {
-        return None;
+}
+
+/// Puts a format on a page.
+#[macro_export]
+macro_rules! put {
+    ($page:expr; $($format:tt)*) => {
+        $page.put(format_args!($($format)*))
+    };
+}
+
+/// A text of which at most so many characters are shown: a longer one ends in three dots.
+#[derive(Clone, Copy)]
+pub struct Cut<'t>(pub &'t str, pub usize);
+
+impl fmt::Display for Cut<'_> {
+    fn fmt<W: fmt::Write>(&self, f: &mut fmt::Formatter<W>) -> fmt::Result {
+        let Cut(text, most) = *self;
+        if text.chars().nth(most).is_none() {
+            return write!(f, "{text}");
+        }
+        for letter in text.chars().take(most.saturating_sub(3)) {
+            write!(f, "{letter}")?;
+        }
+        write!(f, "...")
     }
-    Some(bytes.len().saturating_sub(rest.len()))
+}
+
+/// A text whose capital letters are small.
+#[derive(Clone, Copy)]
+pub struct Lower<'t>(pub &'t str);
+
+impl fmt::Display for Lower<'_> {
+    fn fmt<W: fmt::Write>(&self, f: &mut fmt::Formatter<W>) -> fmt::Result {
+        for letter in self.0.chars() {
+            write!(f, "{}", letter.to_ascii_lowercase())?;
+        }
+        Ok(())
+    }
+}
+
+/// A number, and the word for one or for more.
+#[derive(Clone, Copy)]
+pub struct Count<'t>(pub u64, pub &'t str, pub &'t str);
+
+impl fmt::Display for Count<'_> {
+    fn fmt<W: fmt::Write>(&self, f: &mut fmt::Formatter<W>) -> fmt::Result {
+        let Count(number, one, more) = *self;
+        write!(f, "{number} {}", if number == 1 { one } else { more })
+    }
 }

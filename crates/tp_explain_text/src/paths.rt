@@ -1,7 +1,7 @@
 //! The lists around a place.
 
-use crate::reading::Tree;
 use crate::roles::{Role, role_in};
+use crate::trees::{Text, Tree};
 use std::alloc::{AllocError, Global};
 
 /// A list around a place: its role, its members, where it begins, and the number of the member that
@@ -16,16 +16,11 @@ pub struct Step<'t> {
 
 /// The number of the member of a list that a place is in.
 fn member_at(items: &[Tree], place: usize) -> usize {
-    for (number, tree) in items.iter().enumerate() {
-        let span = match tree {
-            Tree::Word(token) => token.span,
-            Tree::List { span, .. } => *span,
-        };
-        if span.start as usize <= place && place < span.stop as usize {
-            return number;
-        }
-    }
-    items.len()
+    let found = items.iter().position(|tree| {
+        let span = tree.span();
+        span.start as usize <= place && place < span.stop as usize
+    });
+    found.unwrap_or(items.len())
 }
 
 /// The step at a tree, if it is a list.
@@ -48,33 +43,34 @@ fn step_at<'t>(tree: &'t Tree, role: Role, place: usize) -> Option<Step<'t>> {
     })
 }
 
-/// The step at the member that a step leads to, if that is a list.
-fn step_below<'t>(step: Step<'t>, place: usize) -> Option<Step<'t>> {
-    let next = step.items.get(step.child)?;
-    step_at(next, role_in(step.role, step.items, step.child), place)
-}
-
 /// The most lists that are in one another.
 const DEEPEST: usize = 65;
 
-/// The lists around a place of a text, the outermost first: the last of them begins there, or has a
-/// word that does.
+/// The lists around a place of a domain or a problem, the outermost first: the last of them begins
+/// there, or has a word that does.
 pub fn path_to<'t>(
     alloc: Global,
-    tree: &'t Tree,
-    role: Role,
+    text: &Text<'t>,
+    in_problem: bool,
     place: usize,
 ) -> Result<Vec<Step<'t>>, AllocError> {
     let mut path = Vec::new(alloc);
-    let mut next = step_at(tree, role, place);
+    let role = if in_problem {
+        Role::Problem
+    } else {
+        Role::Domain
+    };
+    let mut next = step_at(text.tree, role, place);
     for _ in 0..DEEPEST {
-        match next {
-            None => break,
-            Some(step) => {
-                path.push(step)?;
-                next = step_below(step, place);
-            }
-        }
+        let Some(step) = next else {
+            break;
+        };
+        path.push(step)?;
+        let role = role_in(step.role, step.items, step.child);
+        next = match step.items.get(step.child) {
+            Some(tree) => step_at(tree, role, place),
+            None => None,
+        };
     }
     Ok(path)
 }

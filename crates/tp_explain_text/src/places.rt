@@ -1,7 +1,9 @@
 //! Lines and columns of places in files, and what stands before a headline or a note.
 
 use crate::chars::count_chars;
+use crate::marks::put_mark;
 use crate::page::Page;
+use std::fmt;
 
 /// A file of the call: its name there, or `stdin` for the commands, and what it holds.
 #[derive(Clone, Copy)]
@@ -19,15 +21,12 @@ pub struct LineAt<'t> {
 }
 
 /// A line without a carriage return at its end.
-fn without_return(line: &[u8]) -> &[u8] {
-    match line {
-        [front @ .., b'\r'] => front,
-        _ => line,
-    }
+pub fn without_return(line: &[u8]) -> &[u8] {
+    line.strip_suffix(b"\r").unwrap_or(line)
 }
 
 /// The line of a place in a text. A place behind the text is that at its end.
-pub fn line_at(text: &[u8], place: usize) -> LineAt<'_> {
+pub(crate) fn line_at(text: &[u8], place: usize) -> LineAt<'_> {
     let mut number = 1u64;
     let mut begin = 0usize;
     let mut end = text.len();
@@ -41,47 +40,41 @@ pub fn line_at(text: &[u8], place: usize) -> LineAt<'_> {
             begin = at.saturating_add(1);
         }
     }
-    let line = text.get(begin..end).unwrap_or(&[]);
-    let at = place.min(end).saturating_sub(begin);
     LineAt {
         number,
-        bytes: without_return(line),
-        at,
+        bytes: without_return(text.get(begin..end).unwrap_or(&[])),
+        at: place.min(end).saturating_sub(begin),
     }
 }
 
-/// The column of a place in a line, from 1.
-pub(crate) fn column(line: &[u8], at: usize) -> u64 {
-    let before = line.get(..at).unwrap_or(line);
-    let count = count_chars(before);
-    u64::try_from(count).unwrap_or(u64::MAX).saturating_add(1)
-}
-
-/// The line and the column of a place in a text, both from 1. Columns count characters, and bytes
+/// A place in a file before what follows, as `plan:3:14: `. Columns count characters, and bytes
 /// that are none.
-pub fn line_and_column(text: &[u8], place: usize) -> (u64, u64) {
-    let line = line_at(text, place);
-    (line.number, column(line.bytes, line.at))
+#[derive(Clone, Copy)]
+pub struct At<'t>(pub Source<'t>, pub usize);
+
+impl fmt::Display for At<'_> {
+    fn fmt<W: fmt::Write>(&self, f: &mut fmt::Formatter<W>) -> fmt::Result {
+        let At(source, place) = *self;
+        let line = line_at(source.text, place);
+        let before = line.bytes.get(..line.at).unwrap_or(line.bytes);
+        let column = count_chars(before).saturating_add(1);
+        write!(f, "{}:{}:{column}: ", source.name, line.number)
+    }
 }
 
-/// Puts a file as the place of what follows.
-pub fn put_file(page: &mut Page, name: &str) {
-    page.put(name);
-    page.put(": ");
+/// Puts the headline of an error at a place, and marks the place.
+pub fn put_error<D: fmt::Display + Drop>(page: &mut Page, source: Source<'_>, at: usize, text: D) {
+    page.put(At(source, at));
+    page.put("error: ");
+    page.put(text);
+    page.put("\n");
+    put_mark(page, source, at);
 }
 
-/// Puts a line and a column as the place of what follows.
-pub fn put_line_place(page: &mut Page, name: &str, line: u64, column: u64) {
-    page.put(name);
-    page.put(":");
-    page.put_number(line);
-    page.put(":");
-    page.put_number(column);
-    page.put(": ");
-}
-
-/// Puts a place in a file as that of what follows.
-pub fn put_place(page: &mut Page, source: Source<'_>, place: usize) {
-    let (line, column) = line_and_column(source.text, place);
-    put_line_place(page, source.name, line, column);
+/// Puts the headline of an error at a place, a format, and marks the place.
+#[macro_export]
+macro_rules! error_at {
+    ($page:expr, $source:expr, $at:expr; $($format:tt)*) => {
+        $crate::put_error($page, $source, $at, format_args!($($format)*))
+    };
 }

@@ -1,6 +1,6 @@
 //! What a list is, by the lists around it.
 
-use crate::reading::Tree;
+use crate::trees::{Tree, head_of};
 use tp_syntax_ast::{
     CondWord, EffectWord, Joint, Key, Operator, ProblemSection, Section, cond_word_of,
     effect_word_of, joint_of, key_of, operator_of, problem_section_of, section_of,
@@ -55,38 +55,25 @@ pub enum Role {
 
 /// The role of a section of a domain.
 fn domain_section(child: &Tree) -> Role {
-    let Tree::List { items, .. } = child else {
-        return Role::Nothing;
-    };
-    match items.as_slice().first() {
-        Some(Tree::Word(head)) => match section_of(head.text.as_str()) {
-            Some(section) => Role::Section(section),
-            None => Role::NoSection,
-        },
-        _ => Role::NoSection,
+    match section_of(child.head()) {
+        Some(section) => Role::Section(section),
+        None if child.is_list() => Role::NoSection,
+        None => Role::Nothing,
     }
 }
 
 /// The role of a section of a problem.
 fn problem_section(child: &Tree) -> Role {
-    let Tree::List { items, .. } = child else {
-        return Role::Nothing;
-    };
-    match items.as_slice().first() {
-        Some(Tree::Word(head)) => match problem_section_of(head.text.as_str()) {
-            Some(section) => Role::ProblemSection(section),
-            None => Role::NoSection,
-        },
-        _ => Role::NoSection,
+    match problem_section_of(child.head()) {
+        Some(section) => Role::ProblemSection(section),
+        None if child.is_list() => Role::NoSection,
+        None => Role::Nothing,
     }
 }
 
 /// The role of what stands behind a field's word.
-fn field_value(lasts: bool, before: Option<&Tree>) -> Role {
-    let Some(Tree::Word(word)) = before else {
-        return Role::Nothing;
-    };
-    match key_of(word.text.as_str()) {
+fn field_value(lasts: bool, word: &str) -> Role {
+    match key_of(word) {
         Some(Key::Parameters) => Role::Variables,
         Some(Key::Precondition) => Role::Condition,
         Some(Key::Duration) => Role::Constraint,
@@ -99,7 +86,9 @@ fn field_value(lasts: bool, before: Option<&Tree>) -> Role {
 
 /// The role of a member of a section of a domain.
 fn in_section(section: Section, items: &[Tree], number: usize) -> Role {
-    let before = items.get(number.saturating_sub(1));
+    let before = items
+        .get(number.saturating_sub(1))
+        .map_or("", |tree| tree.word());
     match section {
         Section::Requirements => Role::Nothing,
         Section::Types | Section::Constants => Role::Types(false),
@@ -126,11 +115,8 @@ fn in_bound(role: Role, number: usize) -> Role {
 }
 
 /// The role of a member of a condition.
-fn in_condition(items: &[Tree], number: usize) -> Role {
-    let Some(Tree::Word(head)) = items.first() else {
-        return Role::Nothing;
-    };
-    match cond_word_of(head.text.as_str()) {
+fn in_condition(head: &str, number: usize) -> Role {
+    match cond_word_of(head) {
         CondWord::And | CondWord::Or | CondWord::Not | CondWord::Imply => Role::Condition,
         CondWord::Forall | CondWord::Exists => in_bound(Role::Condition, number),
         CondWord::Other | CondWord::Preference => Role::Nothing,
@@ -139,28 +125,17 @@ fn in_condition(items: &[Tree], number: usize) -> Role {
 }
 
 /// The role of a member of a list of conditions or effects at times.
-fn in_timed(role: Role, inner: Role, items: &[Tree], number: usize) -> Role {
-    let Some(Tree::Word(head)) = items.first() else {
-        return Role::Nothing;
-    };
-    match joint_of(head.text.as_str()) {
+fn in_timed(role: Role, inner: Role, head: &str, number: usize) -> Role {
+    match joint_of(head) {
         Joint::And => role,
         Joint::Forall => in_bound(role, number),
         Joint::One => inner,
     }
 }
 
-/// The role of a member of an effect.
-fn in_effect(items: &[Tree], number: usize) -> Role {
-    let Some(Tree::Word(head)) = items.first() else {
-        return Role::Nothing;
-    };
-    match joint_of(head.text.as_str()) {
-        Joint::And => return Role::Effect,
-        Joint::Forall => return in_bound(Role::Effect, number),
-        Joint::One => {}
-    }
-    match effect_word_of(head.text.as_str()) {
+/// The role of a member of a single effect.
+fn in_one_effect(head: &str, number: usize) -> Role {
+    match effect_word_of(head) {
         EffectWord::Not => Role::Atom(Symbol::Predicate),
         EffectWord::When | EffectWord::Other => Role::Nothing,
         _ if number == 1 => Role::Atom(Symbol::Function),
@@ -168,35 +143,30 @@ fn in_effect(items: &[Tree], number: usize) -> Role {
     }
 }
 
-/// The role of a member of a duration constraint.
-fn in_constraint(items: &[Tree]) -> Role {
-    let Some(Tree::Word(head)) = items.first() else {
-        return Role::Nothing;
-    };
-    match head.text.as_str().as_bytes() {
-        b"<=" | b"=" | b">=" => Role::Expression(Value::Constraint),
-        _ => Role::Constraint,
-    }
-}
-
-/// The role of a member of an expression.
-fn in_expression(value: Value, items: &[Tree]) -> Role {
-    match items.first() {
-        Some(Tree::Word(head)) if operator_of(head.text.as_str()) != Operator::Other => {
-            Role::Expression(value)
-        }
-        _ => Role::Nothing,
-    }
-}
-
 /// The role of a member of an entry of `:init`.
-fn in_initial(items: &[Tree], number: usize) -> Role {
-    match items.first() {
-        Some(Tree::Word(head)) => match head.text.as_str().as_bytes() {
-            b"=" if number == 1 => Role::Atom(Symbol::Function),
-            _ if head.text.as_str().eq_ignore_ascii_case("not") => Role::Atom(Symbol::Predicate),
-            _ => Role::Nothing,
+fn in_initial(head: &str, number: usize) -> Role {
+    if head == "=" && number == 1 {
+        Role::Atom(Symbol::Function)
+    } else if head.eq_ignore_ascii_case("not") {
+        Role::Atom(Symbol::Predicate)
+    } else {
+        Role::Nothing
+    }
+}
+
+/// The role of a member of a list that begins with a word.
+fn in_headed(role: Role, head: &str, number: usize) -> Role {
+    match role {
+        Role::Condition => in_condition(head, number),
+        Role::TimedCondition => in_timed(role, Role::Condition, head, number),
+        Role::TimedEffect => in_timed(role, Role::Effect, head, number),
+        Role::Effect => in_timed(role, in_one_effect(head, number), head, number),
+        Role::Constraint => match head.as_bytes() {
+            b"<=" | b"=" | b">=" => Role::Expression(Value::Constraint),
+            _ => Role::Constraint,
         },
+        Role::Expression(_) if operator_of(head) != Operator::Other => role,
+        Role::Initial => in_initial(head, number),
         _ => Role::Nothing,
     }
 }
@@ -215,13 +185,7 @@ pub fn role_in(role: Role, items: &[Tree], number: usize) -> Role {
         Role::Section(section) => in_section(section, items, number),
         Role::ProblemSection(section) => in_problem_section(section),
         Role::Signature(_) | Role::Variables => Role::Types(true),
-        Role::Condition => in_condition(items, number),
-        Role::TimedCondition => in_timed(role, Role::Condition, items, number),
-        Role::TimedEffect => in_timed(role, Role::Effect, items, number),
-        Role::Effect => in_effect(items, number),
-        Role::Constraint => in_constraint(items),
-        Role::Expression(value) => in_expression(value, items),
-        Role::Initial => in_initial(items, number),
-        _ => Role::Nothing,
+        _ if head_of(items).is_empty() => Role::Nothing,
+        _ => in_headed(role, head_of(items), number),
     }
 }

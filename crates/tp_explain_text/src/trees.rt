@@ -1,8 +1,16 @@
-//! Words and lists of a text that was read.
+//! Parse trees that own their words: what is lent of one has the tree's own lifetime alone.
 
-use crate::page::Page;
 use crate::places::Source;
-use crate::reading::Tree;
+use std::alloc::{AllocError, Global};
+use std::fmt;
+use tp_text::{Span, TextFault};
+
+/// A word or a list, with its place in the text.
+#[derive(Drop)]
+pub enum Tree {
+    Word { text: String, span: Span },
+    List { items: Vec<Tree>, span: Span },
+}
 
 /// A text that was read: its file, and its tree.
 #[derive(Clone, Copy)]
@@ -11,70 +19,131 @@ pub struct Text<'t> {
     pub tree: &'t Tree,
 }
 
-/// Where a word or a list begins.
-pub fn place_of(tree: &Tree) -> usize {
+/// What a tree of a text spells.
+fn owned(alloc: Global, tree: &tp_text::Tree<'_>) -> Result<Tree, AllocError> {
     match tree {
-        Tree::Word(token) => token.span.start as usize,
-        Tree::List { span, .. } => span.start as usize,
-    }
-}
-
-/// The word that a tree is.
-pub fn word_of<'t>(tree: &'t Tree) -> Option<&'t str> {
-    match tree {
-        Tree::Word(token) => Some(token.text.as_str()),
-        Tree::List { .. } => None,
-    }
-}
-
-/// The members of a list. A word has none.
-pub fn items_of<'t>(tree: &'t Tree) -> &'t [Tree] {
-    match tree {
-        Tree::Word(_) => &[],
-        Tree::List { items, .. } => items.as_slice(),
-    }
-}
-
-/// Whether a tree is a list.
-pub fn is_list(tree: &Tree) -> bool {
-    matches!(tree, Tree::List { .. })
-}
-
-/// The word that a list begins with.
-pub fn head_word<'t>(items: &'t [Tree]) -> Option<&'t str> {
-    word_of(items.first()?)
-}
-
-/// Whether a tree is this word, in any case.
-pub fn is_the_word(tree: &Tree, name: &str) -> bool {
-    match tree {
-        Tree::Word(token) => token.text.as_str().eq_ignore_ascii_case(name),
-        Tree::List { .. } => false,
-    }
-}
-
-/// Whether a tree is `-`.
-pub fn is_dash(tree: &Tree) -> bool {
-    is_the_word(tree, "-")
-}
-
-/// Puts a list by its head: `(HEAD ..)`, `(HEAD)`, `(..)` or `()`.
-pub fn put_list(page: &mut Page, items: &[Tree]) {
-    match items.first() {
-        None => page.put("()"),
-        Some(Tree::Word(head)) => {
-            page.put("(");
-            page.put(head.text.as_str());
-            page.put(if items.len() == 1 { ")" } else { " ..)" });
+        tp_text::Tree::Word(token) => {
+            let text = String::from_str(alloc, token.text)?;
+            let span = token.span;
+            Ok(Tree::Word { text, span })
         }
-        Some(Tree::List { .. }) => page.put("(..)"),
+        tp_text::Tree::List { items, span } => {
+            let span = *span;
+            let mut all = Vec::new(alloc);
+            for item in items {
+                all.push(owned(alloc, item)?)?;
+            }
+            Ok(Tree::List { items: all, span })
+        }
     }
 }
 
-/// Puts a word, or a list by its head.
-pub fn put_tree(page: &mut Page, tree: &Tree) {
-    match tree {
-        Tree::Word(token) => page.put(token.text.as_str()),
-        Tree::List { items, .. } => put_list(page, items.as_slice()),
+/// The tree that a text spells.
+pub fn read_tree(alloc: Global, text: &str) -> Result<Tree, TextFault> {
+    match tp_text::read_tree(alloc, text) {
+        Ok(tree) => Ok(owned(alloc, &tree)?),
+        Err(fault) => Err(fault),
+    }
+}
+
+impl Tree {
+    /// From where to where it stands in its text.
+    pub fn span(&self) -> Span {
+        match self {
+            Tree::Word { span, .. } | Tree::List { span, .. } => *span,
+        }
+    }
+
+    /// Where it begins.
+    pub fn place(&self) -> usize {
+        self.span().start as usize
+    }
+
+    /// The word that it is, or nothing.
+    pub fn word<'t>(&'t self) -> &'t str {
+        match self {
+            Tree::Word { text, .. } => text.as_str(),
+            Tree::List { .. } => "",
+        }
+    }
+
+    /// Its members. A word has none.
+    pub fn items<'t>(&'t self) -> &'t [Tree] {
+        match self {
+            Tree::Word { .. } => &[],
+            Tree::List { items, .. } => items.as_slice(),
+        }
+    }
+
+    /// The word that it begins with, or nothing.
+    pub fn head<'t>(&'t self) -> &'t str {
+        head_of(self.items())
+    }
+
+    /// Its members behind the first.
+    pub fn rest<'t>(&'t self) -> &'t [Tree] {
+        rest_of(self.items())
+    }
+
+    /// Whether it is a list.
+    pub fn is_list(&self) -> bool {
+        matches!(self, Tree::List { .. })
+    }
+
+    /// Whether it is this word, in any case.
+    pub fn is(&self, name: &str) -> bool {
+        self.word().eq_ignore_ascii_case(name)
+    }
+}
+
+/// The word that members begin with, or nothing.
+pub fn head_of<'t>(items: &'t [Tree]) -> &'t str {
+    match items.first() {
+        Some(first) => first.word(),
+        None => "",
+    }
+}
+
+/// The members behind the first.
+pub fn rest_of<'t>(items: &'t [Tree]) -> &'t [Tree] {
+    items.get(1..).unwrap_or(&[])
+}
+
+/// A list by its head: `(HEAD ..)`, `(HEAD)`, `(..)` or `()`.
+#[derive(Clone, Copy)]
+pub struct Brief<'t>(pub &'t [Tree]);
+
+impl fmt::Display for Brief<'_> {
+    fn fmt<W: fmt::Write>(&self, f: &mut fmt::Formatter<W>) -> fmt::Result {
+        match self.0 {
+            [] => write!(f, "()"),
+            [head @ Tree::Word { .. }] => write!(f, "({})", head.word()),
+            [head @ Tree::Word { .. }, ..] => write!(f, "({} ..)", head.word()),
+            _ => write!(f, "(..)"),
+        }
+    }
+}
+
+/// A word, or a list by its head.
+impl fmt::Display for Tree {
+    fn fmt<W: fmt::Write>(&self, f: &mut fmt::Formatter<W>) -> fmt::Result {
+        match self {
+            Tree::Word { text, .. } => write!(f, "{text}"),
+            Tree::List { items, .. } => write!(f, "{}", Brief(items.as_slice())),
+        }
+    }
+}
+
+/// Words and lists by their heads, in parentheses.
+#[derive(Clone, Copy)]
+pub struct Words<'t>(pub &'t [Tree]);
+
+impl fmt::Display for Words<'_> {
+    fn fmt<W: fmt::Write>(&self, f: &mut fmt::Formatter<W>) -> fmt::Result {
+        write!(f, "(")?;
+        for (number, tree) in self.0.iter().enumerate() {
+            write!(f, "{}{tree}", if number == 0 { "" } else { " " })?;
+        }
+        write!(f, ")")
     }
 }
