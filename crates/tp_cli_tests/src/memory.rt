@@ -214,7 +214,15 @@ impl CountedLogs {
 
     /// What the file that was kept holds, if one was.
     pub(crate) fn into_text(self) -> Option<Vec<u8>> {
-        match self.last {
+        let CountedLogs {
+            alloc: _,
+            room: _,
+            name: _,
+            last,
+            asked: _,
+            failures: _,
+        } = self;
+        match last {
             Some(sheet) => Some(sheet.into_text()),
             None => None,
         }
