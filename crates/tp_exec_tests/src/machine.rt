@@ -1,26 +1,14 @@
 //! Worked examples of executives over a network for all bounds.
 
-ghost use Rattle.std.specs.Prelude.{◌≡◌, ◌≤◌};
-
 use std::alloc::{AllocError, Global};
 use std::test::Fail;
 use tp_bounds::{Bound, BoundId, Broken, Edge, Limits, Point, Setting, check_schedule};
 use tp_exec_machine::{Answer, Command, Executive, Kind, Refusal, Report, perform_all};
 use tp_net::{Net, ScratchNet};
 
-/// An executive over a new network of so many events.
-fn start(
-    alloc: Global,
-    limits: Limits,
-    events: u16,
-    horizon: u32,
-) -> Result<Executive<ScratchNet>, AllocError>
-    requires few { events ≤ 1_024 }
-    requires allowed { events ≤ limits.events }
-    requires far { horizon ≤ 1_000_000_000 }
-    requires horizon { horizon ≡ limits.horizon }
-{
-    let net = ScratchNet::new(alloc, events, horizon)?;
+/// An executive over a new network of so many events, as far as the limits allow them.
+fn start(alloc: Global, limits: Limits, events: u16) -> Result<Executive<ScratchNet>, AllocError> {
+    let net = ScratchNet::new(alloc, events.min(limits.events()), limits.horizon())?;
     Ok(Executive::bare(alloc, limits, net))
 }
 
@@ -73,7 +61,7 @@ fn is_empty_after_two(executive: &Executive<ScratchNet>, limits: Limits) -> bool
 #[test]
 fn one_bound_at_a_time_and_two_identifiers(rt: HostRuntime) -> Result<(), Fail> {
     let limits = Limits::new(1, 1, 2, 5, 0, 0, 0);
-    let mut executive = start(rt.alloc(), limits, 1, 5)?;
+    let mut executive = start(rt.alloc(), limits, 1)?;
     let commands = [
         at_most(0, 5),
         at_most(0, 4),
@@ -110,7 +98,7 @@ fn refuses_without_a_trace(executive: &mut Executive<ScratchNet>) -> bool {
 
 #[test]
 fn a_refused_bound_leaves_no_trace(rt: HostRuntime) -> Result<(), Fail> {
-    let mut executive = start(rt.alloc(), Limits::greatest(100), 2, 100)?;
+    let mut executive = start(rt.alloc(), Limits::greatest(100), 2)?;
     assert!(rt; refuses_without_a_trace(&mut executive));
     Ok(())
 }
@@ -146,7 +134,7 @@ fn goes_on_without_the_bound(executive: &mut Executive<ScratchNet>) -> bool {
 
 #[test]
 fn two_events_keep_their_distance_while_time_goes_on(rt: HostRuntime) -> Result<(), Fail> {
-    let mut executive = start(rt.alloc(), Limits::greatest(100), 2, 100)?;
+    let mut executive = start(rt.alloc(), Limits::greatest(100), 2)?;
     let commands = [
         after(0, 1, 5),
         after(1, 0, -2),
@@ -194,7 +182,7 @@ fn keeps_the_past(setting: &Setting) -> bool {
 
 #[test]
 fn a_copied_setting_tells_schedules_from_others(rt: HostRuntime) -> Result<(), Fail> {
-    let mut executive = start(rt.alloc(), Limits::greatest(10), 2, 10)?;
+    let mut executive = start(rt.alloc(), Limits::greatest(10), 2)?;
     assert!(rt; adds(&mut executive, Point::Event(1), Point::Event(0), -2, 0));
     assert!(rt; matches!(&executive.setting(), Ok(setting) if keeps_the_distance(setting)));
     assert!(rt; is_free_without_the_bound(&executive));

@@ -1,11 +1,9 @@
 //! The small domains, each with its problem, as worlds whose tasks tests ask for.
 #![tactic(auto)]
 
-ghost use Rattle.std.specs.Prelude.{◌≤◌};
-
 use std::alloc::Global;
 use std::test::Fail;
-use tp_bounds::Limits;
+use tp_bounds::{Limits, MOST_HORIZON};
 use tp_ground::{ground, ground_reached};
 use tp_syntax::{Domain, Problem, read_domain, read_problem};
 use tp_task::{GroundFault, Task};
@@ -14,7 +12,8 @@ use tp_testkit::{
 };
 use tp_text::Scale;
 
-/// A domain and a problem, the scale of their time, and a horizon in ticks.
+/// A domain and a problem, the scale of their time, and a horizon in ticks, of which at most
+/// `MOST_HORIZON` count.
 #[derive(Clone, Copy)]
 pub struct World<'a> {
     pub domain: &'a str,
@@ -63,24 +62,18 @@ fn grounded(
     domain: &Domain,
     problem: &Problem,
     world: World<'_>,
-) -> Result<Task, GroundFault>
-    requires { world.horizon ≤ 1000000000 }
-{
-    let limits = Limits::greatest(world.horizon);
+) -> Result<Task, GroundFault> {
+    let limits = Limits::greatest(world.horizon.min(MOST_HORIZON));
     ground(alloc, domain, problem, &limits, world.scale)
 }
 
-fn task_in(alloc: Global, domain: &Domain, world: World<'_>) -> Result<Task, Fail>
-    requires { world.horizon ≤ 1000000000 }
-{
+fn task_in(alloc: Global, domain: &Domain, world: World<'_>) -> Result<Task, Fail> {
     let problem = read_problem(alloc, world.problem, domain)?;
     Ok(grounded(alloc, domain, &problem, world)?)
 }
 
 /// The task of a world, under the greatest limits.
-pub fn task_of(alloc: Global, world: World<'_>) -> Result<Task, Fail>
-    requires { world.horizon ≤ 1000000000 }
-{
+pub fn task_of(alloc: Global, world: World<'_>) -> Result<Task, Fail> {
     let domain = read_domain(alloc, world.domain)?;
     task_in(alloc, &domain, world)
 }
@@ -90,24 +83,18 @@ fn kept(
     domain: &Domain,
     problem: &Problem,
     world: World<'_>,
-) -> Result<Task, GroundFault>
-    requires { world.horizon ≤ 1000000000 }
-{
-    let limits = Limits::greatest(world.horizon);
+) -> Result<Task, GroundFault> {
+    let limits = Limits::greatest(world.horizon.min(MOST_HORIZON));
     ground_reached(alloc, domain, problem, &limits, world.scale)
 }
 
-fn kept_in(alloc: Global, domain: &Domain, world: World<'_>) -> Result<Task, Fail>
-    requires { world.horizon ≤ 1000000000 }
-{
+fn kept_in(alloc: Global, domain: &Domain, world: World<'_>) -> Result<Task, Fail> {
     let problem = read_problem(alloc, world.problem, domain)?;
     Ok(kept(alloc, domain, &problem, world)?)
 }
 
 /// The same with the actions alone that the relaxed reach keeps.
-pub fn kept_of(alloc: Global, world: World<'_>) -> Result<Task, Fail>
-    requires { world.horizon ≤ 1000000000 }
-{
+pub fn kept_of(alloc: Global, world: World<'_>) -> Result<Task, Fail> {
     let domain = read_domain(alloc, world.domain)?;
     kept_in(alloc, &domain, world)
 }

@@ -1,10 +1,6 @@
 //! Heads of journals, and audits.
 
-ghost use Rattle.std.specs.Prelude.{◌≡◌, ◌<◌};
-
 use std::alloc::Global;
-use std::marker::Brand;
-use std::sync::ledger::{Blank, Ledger};
 use std::test::Fail;
 use tp_bounds::Limits;
 use tp_exec_machine::Executive;
@@ -18,23 +14,15 @@ const HEADED: &[u8] =
     b"journal 2\nnetwork 4 50\nown 2\nbound 0 0 1 -1\nbound 1 o 2 10\nlag 1 3\nlag 3 4\n> report\n";
 
 /// The head of a journal.
-fn head_of<L: Ledger>(
-    alloc: Global,
-    text: &[u8],
-    blank: Blank,
-) -> Result<Result<JournalHead, AuditFault>, ServeFault>
-    requires name { blank.name ≡ L.name }
-    requires parts { blank.parts ≡ L.parts }
-    requires some { 0 < blank.parts }
-{
-    let mut source = StopSource::<L>::new(text, 64, Stop::Never, blank);
+fn head_of(alloc: Global, text: &[u8]) -> Result<Result<JournalHead, AuditFault>, ServeFault> {
+    let mut source = StopSource::new(text, 64, Stop::Never);
     let buffers = LineBuffers::new(alloc, 16_384)?;
     let mut lines = Lines::new(buffers, &mut source);
     Ok(journal_head(alloc, &mut lines))
 }
 
 fn head(alloc: Global, text: &[u8]) -> Result<JournalHead, AuditFault> {
-    match head_of::<Brand>(alloc, text, Blank::new(1)) {
+    match head_of(alloc, text) {
         Ok(head) => head,
         Err(ServeFault::Memory) => Err(AuditFault::Memory),
         Err(_) => Err(AuditFault::Read),
@@ -55,16 +43,8 @@ const SEVEN: &[u8] =
     b"journal 1\nnetwork 2 100\nbare\n> add o 0 10\n< bound 0\n> add 0 o -3\n< bound 1\n> window 0\n< window 3 10\n> window 1\n< window 0 100\n> add 0 o -11\n< refused conflict new b0\n> window 0\n< window 3 10\n> add o 1 7\n< bound 2\n";
 
 /// The audit of a journal.
-fn audit_of<L: Ledger>(
-    alloc: Global,
-    text: &[u8],
-    blank: Blank,
-) -> Result<Result<Audited, AuditFault>, ServeFault>
-    requires name { blank.name ≡ L.name }
-    requires parts { blank.parts ≡ L.parts }
-    requires some { 0 < blank.parts }
-{
-    let mut source = StopSource::<L>::new(text, 64, Stop::Never, blank);
+fn audit_of(alloc: Global, text: &[u8]) -> Result<Result<Audited, AuditFault>, ServeFault> {
+    let mut source = StopSource::new(text, 64, Stop::Never);
     let buffers = LineBuffers::new(alloc, 16_384)?;
     let mut lines = Lines::new(buffers, &mut source);
     let net = ScratchNet::new(alloc, 2, 100)?;
@@ -73,7 +53,7 @@ fn audit_of<L: Ledger>(
 }
 
 fn audited(alloc: Global, text: &[u8]) -> Result<Audited, AuditFault> {
-    match audit_of::<Brand>(alloc, text, Blank::new(1)) {
+    match audit_of(alloc, text) {
         Ok(found) => found,
         Err(ServeFault::Memory) => Err(AuditFault::Memory),
         Err(_) => Err(AuditFault::Read),

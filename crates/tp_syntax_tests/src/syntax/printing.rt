@@ -1,28 +1,16 @@
 //! Tests of domains that are printed.
 
-ghost use Rattle.std.specs.Prelude.{◌≡◌, ◌<◌};
-
 use std::alloc::Global;
 use std::io;
 use std::io::Write;
-use std::marker::Brand;
-use std::sync::ledger::{Blank, Ledger};
 use std::test::Fail;
 use tp_device::{Failed, ToWrite};
 use tp_syntax::{Domain, print_domain, read_domain};
 use tp_testkit::{MATCH, TOGGLE};
 
 /// What printing to a writer answers.
-fn print_to<L: Ledger, W: Write + Drop>(
-    domain: &Domain,
-    writer: W,
-    blank: Blank,
-) -> Result<(), Failed>
-    requires name { blank.name ≡ L.name }
-    requires parts { blank.parts ≡ L.parts }
-    requires some { 0 < blank.parts }
-{
-    let mut sink = ToWrite::<W, L>::new(writer, blank);
+fn print_to<W: Write + Drop>(domain: &Domain, writer: W) -> Result<(), Failed> {
+    let mut sink = ToWrite::new(writer);
     print_domain(domain, &mut sink)
 }
 
@@ -39,7 +27,7 @@ fn holds(room: &[u8], text: &[u8]) -> bool {
 /// Whether a domain is printed as a text.
 fn prints(alloc: Global, domain: &Domain, text: &str) -> Result<bool, Fail> {
     let mut room = vec![in alloc; 0u8; 4096]?;
-    let printed = print_to::<Brand, _>(domain, room.as_mut_slice(), Blank::new(1));
+    let printed = print_to(domain, room.as_mut_slice());
     Ok(printed.is_ok() && holds(&room, text.as_bytes()))
 }
 
@@ -211,7 +199,7 @@ impl Write for Narrow {
 
 /// What printing answers where the writer takes so many bytes.
 fn print_narrow(domain: &Domain, room: usize) -> Result<(), Failed> {
-    print_to::<Brand, _>(domain, Narrow { room }, Blank::new(1))
+    print_to(domain, Narrow { room })
 }
 
 // Whether printing fails for each room under a length, and not for that.
@@ -235,7 +223,7 @@ fn a_failure_of_the_writer_is_answered(rt: HostRuntime) -> Result<(), Fail> {
 /// text.
 fn is_cut_off(alloc: Global, domain: &Domain, text: &[u8], length: usize) -> Result<bool, Fail> {
     let mut room = vec![in alloc; 0u8; length]?;
-    let printed = print_to::<Brand, _>(domain, room.as_mut_slice(), Blank::new(1));
+    let printed = print_to(domain, room.as_mut_slice());
     Ok(printed == Err(Failed) && text.starts_with(room.as_slice()))
 }
 

@@ -1,7 +1,5 @@
 //! What variables stand for.
 
-ghost use Rattle.std.specs.Prelude.{◌≤◌};
-
 use crate::ground::examples::{HIDDEN, PAIRS};
 use crate::ground::support::{NOTHING, Told, are_told, domain, task_within};
 use std::alloc::{AllocError, Global};
@@ -36,12 +34,10 @@ fn the_first_variable_varies_slowest(rt: HostRuntime) -> Result<(), Fail> {
 fn is_refused(
     alloc: Global,
     domain: &Domain,
-    actions: u32,
+    actions: u16,
     why: Option<GroundFault>,
-) -> Result<bool, Fail>
-    requires { actions ≤ 65535 }
-{
-    let limits = Limits::new(10, 10, 10, 100, 10, actions, 10);
+) -> Result<bool, Fail> {
+    let limits = Limits::new(10, 10, 10, 100, 10, u32::from(actions), 10);
     let fault = task_within(alloc, domain, PAIRS_PROBLEM, &limits)?.err();
     Ok(fault == why)
 }

@@ -1,7 +1,5 @@
 //! What keeps a problem from having a task.
 
-ghost use Rattle.std.specs.Prelude.{◌≤◌};
-
 use crate::ground::support::{domain, task_within};
 use std::alloc::Global;
 use std::test::Fail;
@@ -14,14 +12,11 @@ use tp_testkit::{MATCH, MATCHES, TANK};
 fn is_refused(
     alloc: Global,
     domain: &Domain,
-    atoms: u32,
-    actions: u32,
+    atoms: u16,
+    actions: u16,
     why: Option<GroundFault>,
-) -> Result<bool, Fail>
-    requires atoms { atoms ≤ 65535 }
-    requires actions { actions ≤ 65535 }
-{
-    let limits = Limits::new(10, 10, 10, 100, atoms, actions, 10);
+) -> Result<bool, Fail> {
+    let limits = Limits::new(10, 10, 10, 100, u32::from(atoms), u32::from(actions), 10);
     let fault = task_within(alloc, domain, MATCHES, &limits)?.err();
     Ok(fault == why)
 }

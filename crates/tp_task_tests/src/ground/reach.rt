@@ -1,7 +1,5 @@
 //! Tasks of the actions alone that the relaxed reach keeps.
 
-ghost use Rattle.std.specs.Prelude.{◌≤◌};
-
 use crate::ground::support::{
     NOTHING, Told, are_kept, are_told, domain, reached_within, task_within,
 };
@@ -35,13 +33,11 @@ fn what_needs_a_switch_is_left_out(rt: HostRuntime) -> Result<(), Fail> {
 fn is_refused(
     alloc: Global,
     domain: &Domain,
-    actions: u32,
+    actions: u16,
     all: Option<GroundFault>,
     kept: Option<GroundFault>,
-) -> Result<bool, Fail>
-    requires { actions ≤ 65535 }
-{
-    let limits = Limits::new(10, 10, 10, 100, 10, actions, 10);
+) -> Result<bool, Fail> {
+    let limits = Limits::new(10, 10, 10, 100, 10, u32::from(actions), 10);
     let whole = task_within(alloc, domain, NO_SWITCH, &limits)?.err();
     let some = reached_within(alloc, domain, NO_SWITCH, &limits)?.err();
     Ok(whole == all && some == kept)

@@ -1,7 +1,5 @@
 //! Happenings of the small domains.
 
-ghost use Rattle.std.specs.Prelude.{◌≤◌};
-
 use crate::happen::rows::Named::{End, Only, Start};
 use crate::happen::rows::{Named, Row, Then, are_rows, are_true, event_of};
 use std::alloc::Global;
@@ -46,9 +44,7 @@ fn has_sizes(task: &Task, sizes: Sizes<'_>) -> bool {
         && (task.initial_atoms.len() == sizes.2 && task.initial_numbers.len() == sizes.3)
 }
 
-fn is_of_sizes(alloc: Global, sizes: Sizes<'_>) -> Result<bool, Fail>
-    requires { sizes.0.horizon ≤ 1000000000 }
-{
+fn is_of_sizes(alloc: Global, sizes: Sizes<'_>) -> Result<bool, Fail> {
     let task = task_of(alloc, sizes.0)?;
     Ok(has_sizes(&task, sizes))
 }

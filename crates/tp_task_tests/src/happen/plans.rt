@@ -1,7 +1,5 @@
 //! Plans that texts spell, and texts that are refused.
 
-ghost use Rattle.std.specs.Prelude.{◌≤◌};
-
 use std::alloc::{AllocError, Global};
 use std::process::Abort;
 use std::test::Fail;
@@ -40,9 +38,12 @@ fn are_read_of(rt: &impl Abort, alloc: Global, task: &Task, rows: &[Row<'_>]) {
 }
 
 /// Each text of a table is read so for the task of a world.
-fn are_read(rt: &impl Abort, alloc: Global, world: World<'_>, rows: &[Row<'_>]) -> Result<(), Fail>
-    requires { world.horizon ≤ 1000000000 }
-{
+fn are_read(
+    rt: &impl Abort,
+    alloc: Global,
+    world: World<'_>,
+    rows: &[Row<'_>],
+) -> Result<(), Fail> {
     let task = task_of(alloc, world)?;
     are_read_of(rt, alloc, &task, rows);
     Ok(())

@@ -1,12 +1,7 @@
 //! Plans that are written, and read again.
 
-ghost use Rattle.std.specs.Prelude.{◌≡◌, ◌≤◌, ◌<◌};
-
 use std::alloc::Global;
-use std::io::Write;
-use std::marker::Brand;
 use std::process::Abort;
-use std::sync::ledger::{Blank, Ledger};
 use std::test::Fail;
 use tp_device::{Failed, ToWrite};
 use tp_happen::{Plan, Step, print_plan, read_plan};
@@ -14,23 +9,10 @@ use tp_task::Task;
 use tp_testkit_tasks::{CHARGES, FUSES, SWITCHES, World, task_of};
 use tp_text::Scale;
 
-fn print_to<L: Ledger, W: Write + Drop>(
-    plan: &Plan,
-    task: &Task,
-    writer: W,
-    blank: Blank,
-) -> Result<(), Failed>
-    requires name { blank.name ≡ L.name }
-    requires parts { blank.parts ≡ L.parts }
-    requires some { 0 < blank.parts }
-{
-    let mut sink = ToWrite::<W, L>::new(writer, blank);
-    print_plan(plan, task, &mut sink)
-}
-
 /// What printing to so much room answers.
 fn print_in(plan: &Plan, task: &Task, room: &mut [u8]) -> Result<(), Failed> {
-    print_to::<Brand, _>(plan, task, room, Blank::new(1))
+    let mut sink = ToWrite::new(room);
+    print_plan(plan, task, &mut sink)
 }
 
 /// Whether a plan is written as this text, and no more.
@@ -73,18 +55,14 @@ fn are_read_again(
     alloc: Global,
     world: World<'_>,
     rows: &[(&str, &str)],
-) -> Result<(), Fail>
-    requires { world.horizon ≤ 1000000000 }
-{
+) -> Result<(), Fail> {
     let task = task_of(alloc, world)?;
     are_read_again_in(rt, alloc, &task, rows)
 }
 
 const TEXT: &str = "2:(REST) [4.0];\n\n10 : ( charge ) [3]";
 
-fn charges(scale: Scale) -> World<'static>
-    ensures { result.horizon ≤ 1000000000 }
-{
+fn charges(scale: Scale) -> World<'static> {
     World {
         scale,
         horizon: 1_000_000,

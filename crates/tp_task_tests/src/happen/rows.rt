@@ -1,6 +1,6 @@
 //! Happenings as rows of a table.
 
-ghost use Rattle.std.specs.Prelude.{◌≡◌, ◌≤◌, true, IfOk, IfSome};
+ghost use Rattle.std.specs.Prelude.{◌≡◌, true, IfOk, IfSome};
 ghost use Rattle.std.specs.List.{list_all};
 ghost use Rattle.tp_happen.specs.Fault.{OnNext};
 ghost use Rattle.tp_task_tests.specs.OfTask.{IsStateOf, has_event};
@@ -182,9 +182,7 @@ pub(crate) fn are_rows(
     alloc: Global,
     world: World<'_>,
     rows: &[Row<'_>],
-) -> Result<(), Fail>
-    requires { world.horizon ≤ 1000000000 }
-{
+) -> Result<(), Fail> {
     let task = task_of(alloc, world)?;
     are_rows_of(rt, alloc, &task, rows)
 }

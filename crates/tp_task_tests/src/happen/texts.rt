@@ -1,33 +1,16 @@
 //! The small domains printed and read again, their problems, and their beginnings.
 
-ghost use Rattle.std.specs.Prelude.{◌≡◌, ◌<◌};
-
 use std::alloc::Global;
-use std::io::Write;
-use std::marker::Brand;
 use std::str::from_utf8;
-use std::sync::ledger::{Blank, Ledger};
 use std::test::Fail;
 use tp_device::{Failed, ToWrite};
 use tp_syntax::{Domain, SyntaxFault, print_domain, read_domain, read_problem};
 use tp_testkit_tasks::{CHARGES, FUSES, SWITCHES, TANKS, World};
 use tp_text::TextFault;
 
-fn print_to<L: Ledger, W: Write + Drop>(
-    domain: &Domain,
-    writer: W,
-    blank: Blank,
-) -> Result<(), Failed>
-    requires name { blank.name ≡ L.name }
-    requires parts { blank.parts ≡ L.parts }
-    requires some { 0 < blank.parts }
-{
-    let mut sink = ToWrite::<W, L>::new(writer, blank);
-    print_domain(domain, &mut sink)
-}
-
 fn print_in(domain: &Domain, room: &mut [u8]) -> Result<(), Failed> {
-    print_to::<Brand, _>(domain, room, Blank::new(1))
+    let mut sink = ToWrite::new(room);
+    print_domain(domain, &mut sink)
 }
 
 /// Whether room that text was written to, with zeros behind it, has the text of a domain.
