@@ -94,7 +94,12 @@ pub(crate) fn joined_task(alloc: Global, words: PlanWords<'_>, inputs: &Inputs) 
     let domain = &inputs.domain;
     let problem = &inputs.problem;
     match begin(alloc, domain, problem, &limits) {
-        Ok(begun) => ground_joined(alloc, domain, problem, begun, &limits, words.scale).ok(),
+        Ok(begun) => {
+            match ground_joined(alloc, domain, problem, begun, &limits, words.scale) {
+                Ok(joined) => Some(joined.task),
+                Err(_) => None,
+            }
+        }
         Err(_) => None,
     }
 }

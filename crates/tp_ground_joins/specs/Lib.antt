@@ -1,1 +1,5 @@
+pub mod Facts
+pub mod Levels
+pub mod Candidates
+pub mod Closed
 pub mod Joined

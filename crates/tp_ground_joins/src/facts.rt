@@ -1,90 +1,68 @@
-//! What `:init` says, by number: which atoms hold, and which fluents have a value.
+//! The rows of objects of which `:init` says that an atom holds.
 
-use crate::objects::Objects;
+ghost use Rattle.std.specs.Prelude.{◌≡◌, ◌++◌, [], map, IfOk, OnOk};
+ghost use Rattle.tp_syntax_ast.specs.Terms.{term_view};
+ghost use Rattle.tp_syntax_ast.specs.DomainViews.{initial_view};
+ghost use Rattle.tp_ground_bindings.specs.Bindings.{object_for};
+ghost use Rattle.tp_ground_walk.specs.Views.{keyed_view};
+ghost use Rattle.tp_ground_joins.specs.Facts.{keyed_row, fact_of, facts_of};
+
 use std::alloc::{AllocError, Global};
-use std::collections::BTreeMap;
-use tp_syntax_ast::{Atom, Initial, Term};
+use tp_ground_walk::{Keyed, with_key};
+use tp_syntax_ast::{Initial, Term};
 
-/// Rows of objects under each of some names.
-#[derive(Drop)]
-pub(crate) struct Named<'a> {
-    places: BTreeMap<&'a str, usize>,
-    rows: Vec<Vec<Vec<u32>>>,
-}
-
-/// The atoms that hold at first, and the fluents that have a value.
-#[derive(Drop)]
-pub(crate) struct Facts<'a> {
-    pub(crate) atoms: Named<'a>,
-    pub(crate) values: Named<'a>,
-}
-
-fn no_rows<'a>(alloc: Global) -> Named<'a> {
-    Named {
-        places: BTreeMap::new(alloc),
-        rows: Vec::new(alloc),
+// The name of an object.
+fn object_of(term: &Term) -> Keyed<'_>
+    ensures { keyed_view result ≡ object_for [] (term_view term.now) }
+{
+    match term {
+        Term::Object(name) => with_key(name.as_str()),
+        Term::Variable(name) => with_key(name.as_str()),
     }
 }
 
-fn numbers_of(objects: &Objects<'_>, terms: &[Term]) -> Result<Vec<u32>, AllocError> {
-    let mut numbers = Vec::new(objects.alloc);
+fn objects_of<'a>(alloc: Global, terms: &'a [Term]) -> Result<Vec<Keyed<'a>>, AllocError>
+    ensures { IfOk result
+        (λ v. keyed_row v ≡ map (λ t. object_for [] (term_view t)) terms.now) }
+{
+    let mut objects = Vec::with_capacity(alloc, terms.len())?;
     for term in terms {
-        let number = match term {
-            Term::Object(name) | Term::Variable(name) => objects.number(name.as_str()),
-        };
-        numbers.push(number.unwrap_or(u32::MAX))?;
+        objects.push(object_of(term))?;
     }
-    Ok(numbers)
+    Ok(objects)
 }
 
-impl<'a> Named<'a> {
-    // Where the rows of a name are, which has none at first.
-    fn place_for(&mut self, alloc: Global, name: &'a str) -> Result<usize, AllocError> {
-        if let Some(place) = self.places.get(name).copied() {
-            return Ok(place);
-        }
-        let place = self.rows.len();
-        self.rows.push(Vec::new(alloc))?;
-        self.places.insert(name, place)?;
-        Ok(place)
-    }
-
-    fn add(&mut self, objects: &Objects<'_>, atom: &'a Atom) -> Result<(), AllocError> {
-        let place = self.place_for(objects.alloc, atom.name.as_str())?;
-        let row = numbers_of(objects, &atom.terms)?;
-        if let Some(rows) = self.rows.get_mut(place) {
+fn push_fact<'a>(
+    alloc: Global,
+    entry: &'a Initial,
+    name: &str,
+    rows: &mut Vec<Vec<Keyed<'a>>>,
+) -> Result<(), AllocError>
+    ensures { OnOk result (map keyed_row rows.new.items
+        ≡ map keyed_row rows.old.items ++ fact_of name.now (initial_view entry.now)) }
+{
+    if let Initial::Holds(atom) = entry {
+        if atom.name.as_str() == name {
+            let terms = atom.terms.as_slice();
+            let row = objects_of(alloc, terms)?;
             rows.push(row)?;
         }
-        Ok(())
     }
-
-    /// The rows of a name.
-    pub(crate) fn of(&self, name: &str) -> &[Vec<u32>] {
-        let Some(place) = self.places.get(name).copied() else {
-            return &[];
-        };
-        match self.rows.get(place) {
-            Some(rows) => rows.as_slice(),
-            None => &[],
-        }
-    }
+    Ok(())
 }
 
-/// What `:init` says.
-pub(crate) fn facts_of<'a>(
-    objects: &Objects<'a>,
-    initial: &'a [Initial],
-) -> Result<Facts<'a>, AllocError> {
-    let mut facts = Facts {
-        atoms: no_rows(objects.alloc),
-        values: no_rows(objects.alloc),
-    };
-    for entry in initial {
-        match entry {
-            Initial::Holds(atom) => facts.atoms.add(objects, atom)?,
-            Initial::HasValue(fluent, _) => facts.values.add(objects, fluent)?,
-            Initial::Fails(_) => {}
-        }
+/// The rows of objects of which `:init` says that an atom of a name holds.
+pub(crate) fn facts_in<'a>(
+    alloc: Global,
+    entries: &'a [Initial],
+    name: &str,
+) -> Result<Vec<Vec<Keyed<'a>>>, AllocError>
+    ensures { IfOk result
+        (λ v. map keyed_row v.items ≡ facts_of name.now (map initial_view entries.now)) }
+{
+    let mut rows = Vec::new(alloc);
+    for entry in entries {
+        push_fact(alloc, entry, name, &mut rows)?;
     }
-    Ok(facts)
+    Ok(rows)
 }

@@ -22,10 +22,10 @@ const NONE: Progress = Progress {
 
 /// The atoms that are reached, and how far each action is.
 #[derive(Drop)]
-struct Strong<'b> {
+pub(crate) struct Strong<'b> {
     alloc: Global,
     bodies: &'b [Body],
-    reach: Vec<bool>,
+    pub(crate) reach: Vec<bool>,
     progress: Vec<Progress>,
     /// Of each atom, the actions whose conditions mention it.
     waiting: Vec<Vec<u32>>,
@@ -231,7 +231,7 @@ impl<'b> Strong<'b> {
     }
 
     // How many actions can happen whole; of those that reached an atom first, if only these count.
-    fn count(&self, first: bool) -> usize {
+    pub(crate) fn count(&self, first: bool) -> usize {
         let mut count: usize = 0;
         for progress in &self.progress {
             if progress.whole && (progress.first || !first) {
@@ -243,7 +243,7 @@ impl<'b> Strong<'b> {
 
     // Leaves no more than so many actions: those that reached an atom first, by which all atoms are
     // still reached, and of the others an even share.
-    fn thin_out(&mut self, most: usize) {
+    pub(crate) fn thin_out(&mut self, most: usize) {
         let firsts = self.count(true);
         let others = self.count(false).saturating_sub(firsts);
         let room = most.saturating_sub(firsts).min(others);
@@ -259,7 +259,7 @@ impl<'b> Strong<'b> {
         }
     }
 
-    fn marks(&self) -> Result<Vec<bool>, AllocError> {
+    pub(crate) fn marks(&self) -> Result<Vec<bool>, AllocError> {
         let mut marks = Vec::with_capacity(self.alloc, self.progress.len())?;
         for progress in &self.progress {
             marks.push(progress.whole)?;
@@ -268,19 +268,14 @@ impl<'b> Strong<'b> {
     }
 }
 
-/// Which actions can happen whole, where some atoms are true at first; where these are more than
-/// `most`, some of them, by which all atoms are still reached.
-pub(crate) fn whole_actions(
+/// How far actions come where some atoms are true at first.
+pub(crate) fn strong_reach<'b>(
     alloc: Global,
-    bodies: &[Body],
+    bodies: &'b [Body],
     truths: Vec<bool>,
-    most: usize,
-) -> Result<Vec<bool>, AllocError> {
+) -> Result<Strong<'b>, AllocError> {
     let mut strong = Strong::new(alloc, bodies, truths)?;
     strong.wait_all()?;
     strong.spread()?;
-    if strong.count(false) > most {
-        strong.thin_out(most);
-    }
-    strong.marks()
+    Ok(strong)
 }

@@ -8,6 +8,9 @@ pub mod OnFaults
 mod OnTables
 pub mod OnSteps
 mod OnReached
+mod OnNeeded
+mod OnWhole
+mod OnWholeTasks
 pub mod OnSame
 pub mod OnTold
 pub mod OnJudged

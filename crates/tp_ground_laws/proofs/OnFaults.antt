@@ -1,10 +1,9 @@
 -- The faults of a plan are those of what it says by words.
-use Rattle.std.proofs.Common.{◌≡◌, ℕ, zero, suc, ◌+◌, ◌<◌, Bool, true, false, not, cond, ◌&&◌, ◌==◌, nat_le, nat_lt, List, [], ◌∷◌, map, Option, Some, None, is_some, pos, ◌*ℤ◌, max, refl, sym, ap, ap₂, ◌∙◌, subst}
+use Rattle.std.proofs.Common.{◌≡◌, ℕ, zero, suc, ◌+◌, Bool, not, cond, ◌&&◌, ◌==◌, nat_le, nat_lt, List, [], ◌∷◌, map, Option, Some, None, is_some, pos, ◌*ℤ◌, max, refl, sym, ap, ap₂, ◌∙◌}
 use Rattle.std.specs.List.{AllByRecursion, list_all, position_from}
 use Rattle.tp_task.specs.declared.events.Body.{Body}
 use Rattle.tp_task.specs.declared.events.Body.TheVariants.{Instant, Durative}
 use Rattle.tp_task.specs.declared.events.Cond.{Cond}
-use Rattle.tp_task.specs.declared.events.Limit.{Limit}
 use Rattle.tp_task.specs.State.{State, both, value, holds, compares_values}
 use Rattle.tp_task.specs.Event.{interferes, mixes}
 use Rattle.tp_task.specs.Happens.{is_defined, atom_after, number_after}
@@ -12,7 +11,6 @@ use Rattle.tp_task.specs.Tables.{Tables}
 use Rattle.tp_task.specs.Valid.{Planned, Placed, events, at}
 use Rattle.tp_task.specs.Verdict.{Fault, Duration, Undefined, Condition, Clash, Interferes, OverAll, Goal, states, is_unlawful, is_broken, pair_or, first_pair, fault_or, fault_at, last_moment, IsFirstFault, at_moment, at_goal}
 use Rattle.tp_ground.specs.ReadBack.{named_condition, named_event, named_limit, named_body}
-use Rattle.tp_ground.specs.Written.{GroundBody}
 use Rattle.tp_ground_laws.proofs.OnLists.{all_back}
 use Rattle.tp_ground_laws.proofs.ByWords.{WordState, value_in, holds_in, interfere, mix, Timed, after, defined_in, Part, Acted, parts, run}
 use Rattle.tp_ground_laws.proofs.FaultsByWords.{unlawful_in, broken_in, first_pair_in, fault_between, fault_over, fault_by_words, last_part}

@@ -7,7 +7,7 @@ use Rattle.tp_syntax_ast.specs.Problems.{Problem}
 use Rattle.tp_task.specs.Bounds.{In}
 use Rattle.tp_task.specs.State.{State, holds}
 use Rattle.tp_task.specs.Valid.{events}
-use Rattle.tp_task.specs.Verdict.{Fault, states, fault_at, last_moment}
+use Rattle.tp_task.specs.Verdict.{states, fault_at, last_moment}
 use Rattle.tp_task.specs.declared.task.Task.{Task}
 use Rattle.tp_happen.specs.tp_plan_text.declared.plans.Step.{Step}
 use Rattle.tp_validate.specs.Answers.{IsFirst}

@@ -49,7 +49,7 @@ module _ (s : WordState) (reach : Words → Bool) (sub : (w : Words) → s.is_tr
   pub when_holds : (c : GroundCondition) → holds_in s c ≡ true → met reach true c ≡ true
   when_holds c h = when_true c (and_parts (has_values_in s c) (truth_in s c) h).1
 
-among : (vs : List Words) (w : Words) → stands_in vs w ≡ true → has_words vs w ≡ true
+pub among : (vs : List Words) (w : Words) → stands_in vs w ≡ true → has_words vs w ≡ true
 among [] w h = absurd (cc)
 among (v ∷ vs) w h =
     ⊎_elim
@@ -58,7 +58,7 @@ among (v ∷ vs) w h =
     (or_cases (same_words v w) (stands_in vs w) h)
 
 -- what holds of all events at a moment holds of each that happens then
-at_its_moment : (P : Timed → Type 0) (m : ℕ) (es : List Part) → AllByRecursion P (parts_at m es) → (e : Part) → In e es → (e.moment == m) ≡ true → P e.timed
+pub at_its_moment : (P : Timed → Type 0) (m : ℕ) (es : List Part) → AllByRecursion P (parts_at m es) → (e : Part) → In e es → (e.moment == m) ≡ true → P e.timed
 at_its_moment P m [] h e i q = absurd i
 at_its_moment P m (x ∷ es) h e i q =
     ⊎_elim
@@ -81,7 +81,7 @@ module _ (scale : ℕ) (initial : List GroundInitial) (goal : GroundCondition) (
       (or_cases (stands_in t.happening.adds w) _ q)
 
   -- each state's atoms are in the set
-  stays : (m : ℕ) (w : Words) → (r m).is_true w ≡ true → reach w ≡ true
+  pub stays : (m : ℕ) (w : Words) → (r m).is_true w ≡ true → reach w ≡ true
   stays zero w h = closed.has_initial w h
   stays (suc m) w h =
       ⊎_elim

@@ -32,7 +32,7 @@ use Rattle.tp_ground_laws.proofs.OnReached.{all_kept}
 -- ---- steps of one task in another
 
 -- an action of the one is one of the other's
-record IsFound (is js : List Instance) (m : Step) : Type 0 where
+pub record IsFound (is js : List Instance) (m : Step) : Type 0 where
   pub instance : Instance
   pub at : slice_get is m.action.0 ≡ Some instance
   pub is_in : In instance js
@@ -47,10 +47,10 @@ module _ (scale : Scale) (d : Domain) (p : Problem) where
   abbrev body : Instance → GroundBody
   body i = (action_of u i).body
 
-  body_got : (is : List Instance) (i : ℕ) (x : Instance) → slice_get is i ≡ Some x → slice_get (bodies_of u is) i ≡ Some (body x)
+  pub body_got : (is : List Instance) (i : ℕ) (x : Instance) → slice_get is i ≡ Some x → slice_get (bodies_of u is) i ≡ Some (body x)
   body_got is i x h = get_map body is i ∙ ap (option_map body) h
 
-  at_step : (is : List Instance) (s : Step) → is_step_by (bodies_of u is) s ≡ true → (x : Instance) × (slice_get is s.action.0 ≡ Some x)
+  pub at_step : (is : List Instance) (s : Step) → is_step_by (bodies_of u is) s ≡ true → (x : Instance) × (slice_get is s.action.0 ≡ Some x)
   at_step is s h =
       let l : s.action.0 < length (bodies_of u is) = ltb-true s.action.0 (length (bodies_of u is)) (and_parts (nat_lt s.action.0 (length (bodies_of u is))) _ h).0 in
       at_index is s.action.0 (subst (λ n. s.action.0 < n) (length-map is body) l)
@@ -72,7 +72,7 @@ module _ (scale : Scale) (d : Domain) (p : Problem) where
         and_from (nat_lt j (length (bodies_of u js))) _ (lt-ltb j (length (bodies_of u js)) (below (bodies_of u js) j (body f.instance) (body_got js j f.instance e))) (ap (λ o. durative_by o || m.duration == 0) got ∙ q.1) in
         (n, step_by_words scale d p js v l n ∙ ok, record { tick = refl; duration = refl; action = action_words m.action.0 f.instance f.at ∙ sym (other_words j f.instance e) })
 
-    all_moved : (ms : List Step) → IsOfTask t ms → AllByRecursion (IsFound is js) ms → (ns : List Step) × IsOfTask v ns × AreSameSteps t v ms ns
+    pub all_moved : (ms : List Step) → IsOfTask t ms → AllByRecursion (IsFound is js) ms → (ns : List Step) × IsOfTask v ns × AreSameSteps t v ms ns
     all_moved [] h f = ([], refl, tt)
     all_moved (m ∷ ms) h f =
         let q = and_parts (is_step_of t m) (list_all (is_step_of t) ms) h in

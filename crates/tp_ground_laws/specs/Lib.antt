@@ -1,1 +1,3 @@
 pub mod SamePlans
+pub mod Needed
+pub mod WholeTasks

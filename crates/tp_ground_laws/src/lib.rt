@@ -12,6 +12,7 @@ ghost use Rattle.tp_task_reachability.specs.TaskReach.{GoalIs};
 ghost use Rattle.tp_ground.specs.Grounding.{IsTask};
 ghost use Rattle.tp_ground.specs.Reached.{Instance, IsReachedTask, IsTaskOf};
 ghost use Rattle.tp_ground_laws.specs.SamePlans.{HaveSamePlans, HoldsPlans, PlansAreJudgedAlike, some_of};
+ghost use Rattle.tp_ground_laws.specs.WholeTasks.{IsWholeTask};
 
 use tp_ground::actions_are_readable;
 
@@ -48,4 +49,14 @@ pub fn same_goal_is_in_reach()
     ensures { (d : Domain) (p : Problem) (limits small : RunLimits)
         (scale : Scale) (t u : Task) → IsTask limits scale d p t
         → IsReachedTask small scale d p u → (b : Bool) → GoalIs t b ↔ GoalIs u b }
+{}
+
+/// A plan, its actions taken by name and objects, is valid for the whole task of a problem exactly
+/// if it is for a task that has each action that a valid plan may have: the whole task has no valid
+/// plan with another action.
+pub fn whole_tasks_have_all_plans()
+    ensures { (text other : List ℕ) (d : Domain) (p : Problem)
+        (limits small : RunLimits) (scale : Scale) (t u : Task) → SpellsDomain text d
+        → SpellsProblem d other p → IsTask limits scale d p t
+        → IsWholeTask small scale d p u → HaveSamePlans t u }
 {}

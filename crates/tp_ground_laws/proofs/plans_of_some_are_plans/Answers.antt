@@ -1,6 +1,5 @@
-use Rattle.std.proofs.Common.{◌≡◌}
 use Rattle.tp_ground.specs.Bindings.{universe_of}
-use Rattle.tp_ground.specs.Reached.{Instance, instances}
+use Rattle.tp_ground.specs.Reached.{instances}
 use Rattle.tp_ground_laws.specs.SamePlans.{some_of}
 use Rattle.tp_ground_laws.proofs.OnLists.{of_filter}
 use Rattle.tp_ground_laws.proofs.OnJudged.{same_validity}

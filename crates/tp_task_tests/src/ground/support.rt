@@ -4,7 +4,7 @@ use std::alloc::{AllocError, Global};
 use std::test::Fail;
 use tp_bounds::Limits;
 use tp_ground::{ground, ground_reached};
-use tp_ground_joins::ground_joined;
+use tp_ground_joins::{JoinedTask, ground_joined};
 use tp_ground_named::begin;
 use tp_syntax::{Domain, read_domain, read_problem};
 use tp_task::{ActionId, AtomId, GroundFault, Task};
@@ -47,7 +47,7 @@ pub fn joined_within(
     domain: &Domain,
     problem: &str,
     limits: &Limits,
-) -> Result<Result<Task, GroundFault>, Fail> {
+) -> Result<Result<JoinedTask, GroundFault>, Fail> {
     let problem = read_problem(alloc, problem, domain)
         .ok()
         .ok_or("no problem")?;
@@ -176,8 +176,8 @@ pub fn are_kept(
 // The same of a domain that is lent.
 fn is_joined(alloc: Global, domain: &Domain, problem: &str, told: &Told) -> Result<bool, Fail> {
     let task = joined_within(alloc, domain, problem, &Limits::greatest(100))?;
-    let task = task.ok().ok_or("no task")?;
-    Ok(tells(&task, told)?)
+    let joined = task.ok().ok_or("no task")?;
+    Ok(joined.is_whole && tells(&joined.task, told)?)
 }
 
 /// Whether the task of the actions alone that joins of static conditions leave tells these.

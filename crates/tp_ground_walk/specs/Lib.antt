@@ -1,0 +1,4 @@
+pub mod Keys
+pub mod Views
+pub mod Checks
+pub mod Walks
