@@ -120,14 +120,13 @@ fn tell_bounds(
     scale: Scale,
 ) -> Result<(), AllocError> {
     let (domain, problem, plan) = texts.into_parts();
-    let domain = read_tree(page.alloc(), domain.as_str());
-    let problem = read_tree(page.alloc(), problem.as_str());
-    match (&domain, &problem) {
-        (Ok(domain), Ok(problem)) => {
-            tell_trees(page, domain, problem, plan.as_str(), scale, network)
-        }
-        _ => Ok(()),
-    }
+    let Ok(domain) = read_tree(page.alloc(), domain.as_str()) else {
+        return Ok(());
+    };
+    let Ok(problem) = read_tree(page.alloc(), problem.as_str()) else {
+        return Ok(());
+    };
+    tell_trees(page, &domain, &problem, plan.as_str(), scale, network)
 }
 
 /// Puts a line for each bound of the network of the plan that the words name.

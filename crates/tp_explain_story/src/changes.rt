@@ -27,6 +27,19 @@ fn clashing<'d, 'a>(doings: &'d [Doing<'a>]) -> Option<(&'d Doing<'a>, &'d Doing
     None
 }
 
+/// Puts an effect at its place.
+fn put_effect<'a>(
+    page: &mut Page,
+    story: &Story<'a>,
+    words: &str,
+    doing: &Doing<'a>,
+) -> Result<(), AllocError> {
+    let text = story.text(&doing.leaf)?;
+    let at = story.texts().in_domain(doing.leaf.place());
+    put!(page; "{at}note: {words} {}\n", Cut(text.as_str(), WIDEST));
+    Ok(())
+}
+
 /// Explains that an event changes a fluent twice.
 pub(crate) fn tell_clash(
     page: &mut Page,
@@ -43,12 +56,8 @@ pub(crate) fn tell_clash(
         "{event} changes {name} twice at {tick}, and not by increases and decreases alone"
     );
     put_invalid(page, texts, story.step_place(event.step), what);
-    for (words, doing) in [("one effect is", one), ("another is", other)] {
-        let text = story.text(&doing.leaf)?;
-        let at = texts.in_domain(doing.leaf.place());
-        put!(page; "{at}note: {words} {}\n", Cut(text.as_str(), WIDEST));
-    }
-    Ok(())
+    put_effect(page, story, "one effect is", one)?;
+    put_effect(page, story, "another is", other)
 }
 
 /// What an effect does, in the third person.

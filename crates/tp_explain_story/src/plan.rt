@@ -57,30 +57,32 @@ fn read_step<'a>(
         .actions
         .iter()
         .position(|action| action.name == name.text);
-    let Some((number, action)) = found.and_then(|number| Some((number, world.actions.get(number)?)))
-    else {
+    let Some(number) = found else {
         return Ok(None);
     };
-    let count = action.parameters.len().saturating_add(1);
+    let (count, lasts) = match world.actions.get(number) {
+        Some(action) => (action.parameters.len().saturating_add(1), action.lasts),
+        None => (1, false),
+    };
     let mut own = Vec::new(world.alloc);
     for word in words.iter().skip(1).take(count) {
         own.push(word.text)?;
     }
-    let last = match words.get(count.saturating_add(1)) {
-        Some(word) if action.lasts => word,
-        _ => name,
-    };
+    let mut duration = 0;
+    let mut duration_place = name.place;
+    if lasts {
+        if let Some(last) = words.get(count.saturating_add(1)) {
+            duration = read_ticks(last.text, scale).unwrap_or(0);
+            duration_place = last.place;
+        }
+    }
     Ok(Some(Step {
         action: number,
         words: own,
         tick: read_ticks(time.text, scale).unwrap_or(0),
-        duration: if action.lasts {
-            read_ticks(last.text, scale).unwrap_or(0)
-        } else {
-            0
-        },
+        duration,
         name_place: name.place,
-        duration_place: last.place,
+        duration_place,
     }))
 }
 

@@ -78,13 +78,13 @@ fn lowered(alloc: Global, bytes: &[u8]) -> Result<String, AllocError> {
 /// Explains a verdict on trees, and on the text of a plan in lower case.
 fn tell_trees<'a>(
     page: &mut Page,
-    texts: &Texts<'a>,
+    texts: Texts<'a>,
     domain: &'a Tree,
     problem: &'a Tree,
     plan: &'a str,
     why: Why<'_>,
 ) -> Result<(), AllocError> {
-    let story = Story::new(page.alloc(), domain, problem, plan, *texts)?;
+    let story = Story::new(page.alloc(), domain, problem, plan, texts)?;
     tell(page, &story, why)
 }
 
@@ -101,12 +101,11 @@ pub fn explain_verdict(page: &mut Page, texts: &Texts<'_>, line: &str) -> Result
     let domain = lowered(alloc, texts.domain.text)?;
     let problem = lowered(alloc, texts.problem.text)?;
     let plan = lowered(alloc, texts.plan.text)?;
-    let domain = read_tree(alloc, domain.as_str());
-    let problem = read_tree(alloc, problem.as_str());
-    match (&domain, &problem) {
-        (Ok(domain), Ok(problem)) => {
-            tell_trees(page, texts, domain, problem, plan.as_str(), why)
-        }
-        _ => Ok(()),
-    }
+    let Ok(domain) = read_tree(alloc, domain.as_str()) else {
+        return Ok(());
+    };
+    let Ok(problem) = read_tree(alloc, problem.as_str()) else {
+        return Ok(());
+    };
+    tell_trees(page, *texts, &domain, &problem, plan.as_str(), why)
 }
