@@ -1,5 +1,6 @@
 //! A task as the rounds search it.
 
+use crate::deadlines::least_ticks;
 use std::alloc::{AllocError, Global};
 use tp_guided_costs::Heuristic;
 use tp_guided_relaxed::{Relaxed, build};
@@ -7,12 +8,14 @@ use tp_search_compiled::{State, Task, Watched, small};
 use tp_task::Body;
 use tp_task_reachability::{met, reach};
 
-/// A task, its relaxed task, and the actions that wait for atoms.
+/// A task, its relaxed task, the actions that wait for atoms, and the ticks that each action lasts
+/// at least.
 #[derive(Drop)]
 pub struct Ready {
     pub task: Task,
     pub relaxed: Relaxed,
     pub watched: Watched,
+    pub least: Vec<u32>,
 }
 
 // The actions whose start and end the relaxed task reaches.
@@ -62,10 +65,12 @@ impl Ready {
         let live = live_actions(alloc, &task, &start)?;
         let relaxed = build(alloc, &task, &start, Some(&live))?;
         let watched = Watched::new(alloc, &task, &start, &live)?;
+        let least = least_ticks(alloc, &task)?;
         Ok(Ready {
             task,
             relaxed,
             watched,
+            least,
         })
     }
 }

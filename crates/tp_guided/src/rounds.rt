@@ -7,6 +7,8 @@ use tp_guided_walk::Lengths;
 pub struct Round {
     /// At most so many nodes are expanded.
     pub budget: u32,
+    /// At most so many nodes in a row are expanded without a lesser value.
+    pub length: u32,
     /// No step ends past it.
     pub bound: u32,
     /// What decides between equally cheap operators; 0 for the first one.
@@ -23,7 +25,8 @@ pub struct Round {
 #[derive(Clone, Copy)]
 pub struct Rounds {
     number: u32,
-    /// How many nodes the next round of a search for a better plan expands at most.
+    /// How many nodes in a row the next round of a search for a better plan expands at most without
+    /// a lesser value.
     length: u32,
     /// The place in the sequence of Luby, Sinclair and Zuckerman, 1 1 2 1 1 2 4 1 .., by which the
     /// rounds of a search for any plan are as many times as long as the first: its factor there,
@@ -71,7 +74,8 @@ impl Rounds {
             self.factor.saturating_mul(FIRST_LENGTH)
         };
         Round {
-            budget: length.min(left),
+            budget: left,
+            length,
             bound,
             seed: u64::from(self.number),
             vary: self.number % 4 >= 2,

@@ -2,6 +2,7 @@
 //! taken, first with the starts of the relaxed plan, later with all others; and from each node a
 //! walk that carries out the relaxed plan as far as it goes.
 
+use crate::deadlines::Deadlines;
 use crate::ready::Ready;
 use crate::rounds::Round;
 use std::alloc::{AllocError, Global};
@@ -17,13 +18,14 @@ const KEYS: u32 = 4096;
 const RATIO: u64 = 8;
 
 // So many walks in a row that come to no lesser value end a chain.
-const MOST_FLAT: u32 = 4;
+const MOST_FLAT: u32 = 20;
 
 /// A search of a task.
 #[derive(Drop)]
 pub struct Search<'t> {
     space: Space<'t>,
     value: Heuristic<'t>,
+    deadlines: Deadlines<'t>,
     walk: Walk,
     /// Nodes that are not expanded yet.
     open: Buckets,
@@ -31,6 +33,9 @@ pub struct Search<'t> {
     rest: Buckets,
     round: Round,
     spent: u32,
+    /// The least value so far, and how many nodes were expanded when it was found.
+    least: u32,
+    least_at: u32,
 }
 
 /// What a round came to.
@@ -76,22 +81,35 @@ impl<'t> Search<'t> {
         let cut = round.lengths.outlasts();
         let space = Space::new(alloc, task, &ready.watched, limit, cut)?;
         let value = Heuristic::new(alloc, task, &ready.relaxed, round.by_most)?;
+        let deadlines = Deadlines::new(alloc, &ready.relaxed, &ready.least)?;
         let walk = Walk::new(alloc, task, round.lengths)?;
         let open = Buckets::new(alloc, KEYS)?;
         let rest = Buckets::new(alloc, KEYS)?;
         Ok(Search {
             space,
             value,
+            deadlines,
             walk,
             open,
             rest,
             round,
             spent: 0,
+            least: DEAD,
+            least_at: 0,
         })
     }
 
+    // Whether the budget is spent, or the search stays too long without a lesser value.
     fn is_spent(&self) -> bool {
         self.spent >= self.round.budget
+            || self.spent.saturating_sub(self.least_at) >= self.round.length
+    }
+
+    fn note_value(&mut self, value: u32) {
+        if value < self.least {
+            self.least = value;
+            self.least_at = self.spent;
+        }
     }
 
     /// Searches until a plan is found, the budget is spent or no node is left.
@@ -208,7 +226,7 @@ impl<'t> Search<'t> {
     }
 
     // The value of the loaded node, which is expanded by that; `DEAD` also where the relaxed plan
-    // takes too long.
+    // takes too long, or what a running step needs at its end comes too late.
     fn evaluate(&mut self, chain: &Chain) -> Result<u32, AllocError> {
         self.space.set_expanded(chain.node);
         self.spent = self.spent.saturating_add(1);
@@ -222,10 +240,16 @@ impl<'t> Search<'t> {
             .value
             .evaluate(self.space.state(), self.space.running(), seed)?;
         let end = u64::from(self.space.tick()).saturating_add(self.value.span());
-        if end > u64::from(self.round.bound) {
+        if end > u64::from(self.round.bound) || self.is_late()? {
             return Ok(DEAD);
         }
+        self.note_value(value);
         Ok(value)
+    }
+
+    fn is_late(&mut self) -> Result<bool, AllocError> {
+        self.deadlines
+            .are_missed(self.space.state(), self.space.running())
     }
 
     // Makes the children that start something: of the relaxed plan what keeps the invariants as all
