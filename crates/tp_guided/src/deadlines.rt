@@ -43,14 +43,13 @@ fn ranges_of(alloc: Global, task: &Task) -> Result<Vec<Interval>, AllocError> {
 }
 
 fn least_of(task: &Task, ranges: &[Interval], action: &Action) -> u32 {
-    let mut units: i64 = 1;
+    let mut ticks: i64 = 1;
     for rule in task.rule_of(action) {
         let range = value(task, rule.value, ranges, Interval::point(0));
         if rule.op != Op::Le && !range.is_empty() {
-            units = units.max(range.lo);
+            ticks = ticks.max(range.lo.saturating_mul(i64::from(task.scale)));
         }
     }
-    let ticks = units.saturating_mul(i64::from(task.scale));
     u32::try_from(ticks).unwrap_or(NONE)
 }
 
