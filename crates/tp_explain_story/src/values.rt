@@ -6,6 +6,7 @@ use crate::leaves::{Leaf, Moment};
 use crate::mentions::{Mention, Scope};
 use crate::story::Story;
 use crate::texts::Deed;
+use crate::typed::Binding;
 use std::alloc::AllocError;
 use std::fmt;
 use tp_explain_text::{At, Count, Cut, Page, put};
@@ -29,6 +30,12 @@ fn condition_text<'a>(
     format!(in story.alloc(); "({before} {text})")
 }
 
+/// Puts what a variable stands for, the first of them or one more.
+fn put_binding(page: &mut Page, is_first: bool, binding: &Binding<'_>) {
+    let before = if is_first { ", with " } else { ", " };
+    put!(page; "{before}{} = {}", binding.variable, binding.object);
+}
+
 /// Puts what a condition of a step wants that does not hold. `own` is how many of its bindings are
 /// those of the step.
 pub(crate) fn put_wanted<'a>(
@@ -44,10 +51,8 @@ pub(crate) fn put_wanted<'a>(
     if let Some((a, b)) = story.compared(leaf, facts)? {
         put!(page; ", which is {a} {} {b}", leaf.head());
     }
-    let mut before = ", with ";
-    for binding in leaf.bindings.iter().skip(own) {
-        put!(page; "{before}{} = {}", binding.variable, binding.object);
-        before = ", ";
+    for (place, binding) in leaf.bindings.iter().skip(own).enumerate() {
+        put_binding(page, place == 0, binding);
     }
     page.put("\n");
     Ok(())
