@@ -65,36 +65,49 @@ fn take_word<'w>(call: &mut Call<'w>, word: &'w str) {
     }
 }
 
+/// A call, and the option whose value is the next word, if one is.
+#[derive(Drop)]
+struct Reading<'w> {
+    call: Call<'w>,
+    option: &'w str,
+}
+
+/// Takes the next word of a call.
+fn take_next<'w>(reading: &mut Reading<'w>, word: &'w str) {
+    if !reading.option.is_empty() {
+        take_option(&mut reading.call, reading.option, word);
+        reading.option = "";
+    } else if has_value(word) {
+        reading.option = word;
+    } else if !word.starts_with("--") {
+        take_word(&mut reading.call, word);
+    } else if let Some((name, value)) = word.split_once('=') {
+        take_option(&mut reading.call, name, value);
+    }
+}
+
 /// What the words of a call name.
 pub fn call_of(words: &[String]) -> Call<'_> {
-    let mut call = Call {
-        command: "bare",
-        domain: "",
-        problem: "",
-        plan: "",
-        owners: "",
-        log: "",
-        journal: "",
-        scale: Scale::One,
-        scale_word: "",
-        horizon: 1_000_000,
-        resumes: false,
-        words: 0,
-        inputs: 0,
+    let mut reading = Reading {
+        call: Call {
+            command: "bare",
+            domain: "",
+            problem: "",
+            plan: "",
+            owners: "",
+            log: "",
+            journal: "",
+            scale: Scale::One,
+            scale_word: "",
+            horizon: 1_000_000,
+            resumes: false,
+            words: 0,
+            inputs: 0,
+        },
+        option: "",
     };
-    let mut option = "";
     for word in words {
-        let word = word.as_str();
-        if !option.is_empty() {
-            take_option(&mut call, option, word);
-            option = "";
-        } else if has_value(word) {
-            option = word;
-        } else if !word.starts_with("--") {
-            take_word(&mut call, word);
-        } else if let Some((name, value)) = word.split_once('=') {
-            take_option(&mut call, name, value);
-        }
+        take_next(&mut reading, word.as_str());
     }
-    call
+    reading.call
 }

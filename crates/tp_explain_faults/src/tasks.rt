@@ -163,22 +163,32 @@ pub fn put_too_many(page: &mut Page, world: &World<'_>, what: &str) -> Result<()
 /// The greatest number of a task.
 const GREATEST: u64 = 1_000_000_000_000_000;
 
+/// Whether a word is a number past the greatest one.
+fn is_great(word: &str) -> bool {
+    match read_whole(word) {
+        Some(number) => number.unsigned_abs() > GREATEST,
+        None => false,
+    }
+}
+
 /// The first word of a tree that is a number past the greatest one.
 fn first_great<'t>(tree: &'t Tree) -> Option<&'t Tree> {
-    if !tree.is_list() {
-        let number = read_whole(tree.word())?;
-        return if number.unsigned_abs() > GREATEST {
-            Some(tree)
-        } else {
+    match tree {
+        Tree::Word { text, .. } => {
+            if is_great(text.as_str()) {
+                return Some(tree);
+            }
             None
-        };
-    }
-    for item in tree.items() {
-        if let Some(word) = first_great(item) {
-            return Some(word);
+        }
+        Tree::List { items, .. } => {
+            for item in items {
+                if let Some(word) = first_great(item) {
+                    return Some(word);
+                }
+            }
+            None
         }
     }
-    None
 }
 
 /// The first number that is too great in the sections of a text; `:metric` and `:length` are read
