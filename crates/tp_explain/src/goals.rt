@@ -55,18 +55,26 @@ pub fn unmet_goal<'t, 'c>(tree: &'t Tree, goal: &'c Cond, atoms: &[bool]) -> Unm
     unmet
 }
 
-/// A list as it is written, in small letters, with one space between its parts.
-fn written(alloc: Global, tree: &Tree, text: &mut String) -> Result<(), AllocError> {
-    if !tree.is_list() {
-        return text.push_str(tree.word().to_ascii_lowercase(alloc)?.as_str());
+/// Adds a tree as it is written, in small letters, with one space between its parts.
+fn written(alloc: Global, tree: &Tree, into: &mut String) -> Result<(), AllocError> {
+    match tree {
+        Tree::Word { text, .. } => {
+            let word = text.as_str().to_ascii_lowercase(alloc)?;
+            into.push_str(word.as_str())
+        }
+        Tree::List { items, .. } => {
+            into.push_str("(")?;
+            let mut is_first = true;
+            for item in items {
+                if !is_first {
+                    into.push_str(" ")?;
+                }
+                is_first = false;
+                written(alloc, item, into)?;
+            }
+            into.push_str(")")
+        }
     }
-    let mut before = "(";
-    for item in tree.items() {
-        text.push_str(before)?;
-        before = " ";
-        written(alloc, item, text)?;
-    }
-    text.push_str(if tree.items().is_empty() { "()" } else { ")" })
 }
 
 /// Puts that a conjunct of the goal is out of reach.
