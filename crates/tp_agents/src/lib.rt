@@ -4,8 +4,8 @@
 //! bounds between them are met, and their runs join into one of the whole.
 //!
 //! - `owners`: which agent each event is for; `reading`: the same from a text.
-//! - `fault`: what keeps a setting from being split, an agent from its part, and commands from being
-//!   carried out.
+//! - `fault`: what keeps a setting from being split, an agent from its part, and commands from
+//!   being carried out.
 //! - `crosses`: bounds that join the events of two agents.
 //! - `gathering`: the least schedule of a setting.
 //! - `intervals`: the interval of each event, from the least schedule.

@@ -20,8 +20,9 @@ use tp_device::{Failed, Sink, Source, Tally};
 /// The name of the standard input among those of files.
 pub const STANDARD_INPUT: &str = "-";
 
-/// A file of the host that is read. Each pull is a read of the host's. What it has left is told by a
-/// clause of `pull` and not by the source, since a file of the host tells nothing as it is opened.
+/// A file of the host that is read. Each pull is a read of the host's. What it has left is told by
+/// a clause of `pull` and not by the source, since a file of the host tells nothing as it is
+/// opened.
 #[derive(Drop)]
 pub struct HostFile<R: Read> {
     reader: R,

@@ -11,8 +11,9 @@ use std::rt::Files as HostFileSystem;
 use tp_device::{Failed, Sink, Tally};
 
 /// A file of the host that is written. Each push is a write of the host's, and none is kept back.
-/// A write that fails, or takes none of some bytes, counts as a failure. What the file holds is told
-/// by a clause of `push` and not by the sink, since a file of the host tells nothing as it is made.
+/// A write that fails, or takes none of some bytes, counts as a failure. What the file holds is
+/// told by a clause of `push` and not by the sink, since a file of the host tells nothing as it is
+/// made.
 #[derive(Drop)]
 pub struct HostLog<W: Write> {
     writer: W,

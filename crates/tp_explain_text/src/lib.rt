@@ -12,8 +12,8 @@
 //! - `roles`: what a list is, by the lists around it
 //! - `paths`: the lists around a place
 //!
-//! Nothing that writes returns an error: where memory is refused, a page takes no more, and the line
-//! in hand is dropped.
+//! Nothing that writes returns an error: where memory is refused, a page takes no more, and the
+//! line in hand is dropped.
 #![tactic(auto)]
 
 mod chars;

@@ -91,8 +91,8 @@ fn put_caret(page: &mut Page, part: &Shown<'_>, length: usize) {
     }
 }
 
-/// Puts a line without its end, and the caret under a place in it. Blanks at the end of the line are
-/// left out.
+/// Puts a line without its end, and the caret under a place in it. Blanks at the end of the line
+/// are left out.
 pub fn put_mark_of_line(page: &mut Page, line: &[u8], at: usize) {
     let before = line.get(..at).unwrap_or(line);
     let behind = line.get(at..).unwrap_or(&[]);

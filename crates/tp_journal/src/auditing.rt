@@ -466,7 +466,8 @@ pub fn audit<N: Net + Drop, R: Source>(
     replay(alloc, &mut executive, lines)
 }
 
-/// The same with an executive that is kept: where the lines are a journal, it is as the run left it.
+/// The same with an executive that is kept: where the lines are a journal, it is as the run left
+/// it.
 ///
 /// # Errors
 /// Those of `audit`.

@@ -184,7 +184,8 @@ fn high_without(
     arc: Arc,
     amount: u64,
 ) -> Result<(Vec<u64>, u64), AllocError>
-    requires lost { HasLost (arcs_of high.now.store.now.nodes.slots) high.now.moments.now arc amount }
+    requires lost { HasLost (arcs_of high.now.store.now.nodes.slots)
+        high.now.moments.now arc amount }
     requires idle_up { IsIdle (length high.now.moments.now) up.old }
     requires idle_down { IsIdle (length high.now.moments.now) down.old }
     ensures idle_up { IsIdle (length high.now.moments.now) up.new }
