@@ -48,7 +48,7 @@ fn task_of<N: Files>(alloc: Global, files: &mut N, call: &Call<'_>) -> Option<Ta
     let words = plan_words(call)?;
     let domain = domain_in(alloc, files, words).ok()?;
     let problem = problem_in(alloc, files, words, &domain).ok()?;
-    let limits = Limits::greatest(call.horizon);
+    let limits = Limits::greatest(words.horizon);
     ground_reached(alloc, &domain, &problem, &limits, call.scale).ok()
 }
 
