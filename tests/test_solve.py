@@ -68,9 +68,12 @@ ROWS = (
     (MATCH, MATCHES, f"{CALL} --horizon 7", "exhausted\n", 1),
     (MATCH, SPARE, CALL, "unreachable\n", 1),
     (MATCH, SPARE, f"{CALL} --budget 0 --improve", "unreachable\n", 1),
-    (MATCH, UNLIT, CALL, "exhausted\n", 1),
+    # the mending may end in the delete relaxation of `plan`, which has ends without their starts
+    (MATCH, UNLIT, CALL, "unreachable\n", 1),
+    (MATCH, UNLIT, f"{CALL} --budget 0", "unreachable\n", 1),
     (MEET, MET, CALL, "0: (take) [5]\n1: (give) [5]\n", 0),
     (MEET, MET, f"{CALL} --horizon 6", "0: (take) [5]\n1: (give) [5]\n", 0),
+    (MEET, MET, f"{CALL} --horizon 5", "exhausted\n", 1),
     (LAMP, lamp("(whole a)"), CALL, REPAIRED, 0),
     (LAMP, lamp("(whole a)"), f"{CALL} --horizon 12", REPAIRED, 0),
     (LAMP, lamp("(whole a)"), f"{CALL} --horizon 10", REPAIRED, 0),
@@ -91,6 +94,11 @@ PLACES = f"""(define (problem p) (:domain rides) (:objects {" ".join(f"o{i}" for
  (:init (at o0) (road o0 o1 o0) (road o1 o2 o0)) (:goal (at o2)))"""
 
 RIDDEN = "0: (ride o0 o1 o0) [3]\n4: (ride o1 o2 o0) [3]\n"
+
+# the same without roads, so that each ride may be of use
+FLIGHTS = RIDES.replace("(road ?x ?y ?z)", "").replace("(at start (road ?x ?y ?z))", "")
+
+AIRPORTS = re.sub(r" \(road [^)]*\)", "", PLACES)
 
 # a count of instantaneous steps, one a tick
 STEPS = """(define (domain steps) (:functions (x))
@@ -195,9 +203,15 @@ class Solve(Case):
     def test_more_actions_than_there_may_be(self):
         files = {"domain": RIDES, "problem": PLACES}
         self.comes_to(told_by(RIDDEN, 0), CALL, files)
-        # where the guided search finds nothing, all have to be looked at
-        apart = {**files, "problem": PLACES.replace("(:goal (at o2))", "(:goal (at o3))")}
-        self.comes_to(told("", "fault ground 2 too-many actions\n", 2), CALL, apart)
+        apart = {**files, "problem": PLACES.replace("(at o2))", "(at o3))")}
+        self.comes_to(told_by("unreachable\n", 1), CALL, apart)
+
+    def test_more_useful_actions_than_there_may_be(self):
+        files = {"domain": FLIGHTS, "problem": AIRPORTS}
+        self.comes_to(told_by("0: (ride o0 o2 o0) [3]\n", 0), CALL, files)
+        # where the guided search of some of them finds nothing, all have to be looked at
+        both = {**files, "problem": AIRPORTS.replace("(at o2))", "(and (at o2) (at o3)))")}
+        self.comes_to(told("", "fault ground 2 too-many actions\n", 2), f"{CALL} --budget 8", both)
 
     def test_mending_by_the_light_of_few_matches(self):
         for fuses in (2, 3, 6):

@@ -198,7 +198,21 @@ plan_over files w a b c d over h =
     }
 
 no_plan_over : (files : List ℕ → Option (List ℕ)) (w : SearchWords) (a b c d : Option (List ℕ)) → Shift a b c d → SaysNoPlan files w a b → SaysNoPlan files w c d
-no_plan_over files w a b c d over h = record { task = h.task; line = h.line; named = h.named; why = h.why; of_all = h.of_all; written = over _ h.written }
+no_plan_over files w a b c d over (inl h) = inl (record { task = h.task; line = h.line; named = h.named; why = h.why; of_all = h.of_all; written = over _ h.written })
+no_plan_over files w a b c d over (inr h) =
+    inr (record {
+      wishes = h.wishes;
+      order = h.order;
+      task = h.task;
+      line = h.line;
+      domain = h.domain;
+      problem = h.problem;
+      are_named = h.are_named;
+      task_of = h.task_of;
+      why = h.why;
+      of_all = h.of_all;
+      written = over _ h.written;
+    })
 
 searches_part_over : (files : List ℕ → Option (List ℕ)) (w : SearchWords) (a b c d : Option (List ℕ)) → Shift a b c d → SearchesPart files w a b → SearchesPart files w c d
 searches_part_over files w a b c d over (inl none) = inl (over _ none)

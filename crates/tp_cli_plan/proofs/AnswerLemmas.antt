@@ -23,7 +23,7 @@ use Rattle.tp_ground_laws.specs.SamePlans.{HaveSamePlans, HoldsPlans}
 use Rattle.tp_cli_plan.specs.SearchTasks.{IsSearchTask}
 use Rattle.tp_cli_plan.specs.FoundText.{IsFoundOfTask, IsNoPlanLine, IsPlanText, found_text, is_plan, spent_line}
 use Rattle.tp_cli_inputs.specs.Named.{AreNamed}
-use Rattle.tp_cli_plan.specs.Searches.{IsPlanTask, IsSearchText, Searches, task_words}
+use Rattle.tp_cli_plan.specs.Searches.{IsPlanTask, IsSearched, IsSearchText, Searches, task_words}
 use Rattle.tp_cli_plan.specs.SearchStops.{StopsSearch}
 use Rattle.tp_cli_plan.specs.Telling.{StopsTelling, TellsFound}
 use Rattle.tp_cli_plan.specs.declared.search_words.Order.{Order}
@@ -46,6 +46,14 @@ GoalsAreTheSame =
 abbrev pub Says : Task → ℕ → ℕ → Found → Bool → Type 0
 Says task budget horizon found true = IsPlanText task horizon (found_text found)
 Says task budget horizon found false = IsNoPlanLine task budget (found_text found)
+
+-- the line that says why there is none
+pub none_said : (task : Task) (budget horizon : ℕ) (found : Found) → IsAnswer task budget horizon found → is_plan found ≡ false → IsNoPlanLine task budget (found_text found)
+none_said task budget horizon (Plan plan) answer no = absurd (let none : ⊥ = cc in none)
+none_said task budget horizon Unreachable answer no = inl (answer, refl)
+none_said task budget horizon Exhausted answer no = inr (inl (answer, refl))
+none_said task budget horizon (Spent n) answer no =
+    inr (inr (record { in_reach = answer.in_reach; not_empty = answer.not_empty; all_of_it = refl }, ap spent_line answer.all_of_it))
 
 -- ---- the text of a plan
 
@@ -97,6 +105,10 @@ in_order : (order : Order) (limits : RunLimits) (scale : Scale) (d : Domain) (p 
 in_order (Lacking progress) limits scale d p task h = h
 in_order (Guided wishes) limits scale d p task h = inl h
 
+pub searched_in : (order : Order) (limits : RunLimits) (scale : Scale) (d : Domain) (p : Problem) (task : Task) → IsReachedTask limits scale d p task → IsSearched order limits scale d p task
+searched_in (Lacking progress) limits scale d p task h = h
+searched_in (Guided wishes) limits scale d p task h = inl h
+
 module _ (read : PlansAreRead) (can_be_read : ActionsAreReadable) (all_readable : AllAreReadable) (same_plans : PlansAreTheSame) (same_goals : GoalsAreTheSame) (held : List ℕ → Option (List ℕ)) (w : SearchWords) (task : Task) (within : w.horizon ≤ 1000000000) (named : IsSearchTask held (task_words w) task) where
   abbrev limits : RunLimits
   limits = greatest_limits w.horizon
@@ -112,10 +124,9 @@ module _ (read : PlansAreRead) (can_be_read : ActionsAreReadable) (all_readable 
 
   says : (found : Found) → IsAnswer task w.budget w.horizon found → IsFoundOfTask found → Says task w.budget w.horizon found (is_plan found)
   says (Plan plan) answer of_task = plan_said read task w.horizon within readable_here many_here limit_here plan answer.task answer.within answer.valid of_task
-  says Unreachable answer of_task = inl (answer, refl)
-  says Exhausted answer of_task = inr (inl (answer, refl))
-  says (Spent n) answer of_task =
-      inr (inr (record { in_reach = answer.in_reach; not_empty = answer.not_empty; all_of_it = refl }, ap spent_line answer.all_of_it))
+  says Unreachable answer of_task = none_said task w.budget w.horizon Unreachable answer refl
+  says Exhausted answer of_task = none_said task w.budget w.horizon Exhausted answer refl
+  says (Spent n) answer of_task = none_said task w.budget w.horizon (Spent n) answer refl
 
   module _ (all : Task) (is_all : IsTask limits w.scale named.domain named.problem all) where
     same : HaveSamePlans all task
@@ -146,7 +157,7 @@ module _ (read : PlansAreRead) (can_be_read : ActionsAreReadable) (all_readable 
 
   text_is : (found : Found) (planned : Bool) → Says task w.budget w.horizon found planned → IsSearchText w named.domain named.problem task (found_text found)
   text_is found true h = inl (task_in, h)
-  text_is found false h = inr (named.task_of, h)
+  text_is found false h = inr (searched_in w.order limits w.scale named.domain named.problem task named.task_of, h)
 
   written : (found : Found) (before now : Option (List ℕ)) (planned : Bool) → Says task w.budget w.horizon found planned → ((all : Task) → IsTask limits w.scale named.domain named.problem all → Says all w.budget w.horizon found planned) → TellsFound found before now planned → Searches held w before now planned
   written found before now true h k told =
@@ -161,7 +172,7 @@ module _ (read : PlansAreRead) (can_be_read : ActionsAreReadable) (all_readable 
         of_all = k;
         written = told.1;
       }
-  written found before now false h k told = record { task = task; line = found_text found; named = named; why = h; of_all = k; written = told.1 }
+  written found before now false h k told = inl (record { task = task; line = found_text found; named = named; why = h; of_all = k; written = told.1 })
 
   pub searches : (found : Found) (before now : Option (List ℕ)) (planned : Bool) → IsAnswer task w.budget w.horizon found → IsFoundOfTask found → TellsFound found before now planned → Searches held w before now planned
   searches found before now planned answer of_task told =

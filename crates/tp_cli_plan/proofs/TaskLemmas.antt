@@ -5,13 +5,14 @@ use Rattle.tp_syntax.specs.Domains.{Domain, SpellsDomain}
 use Rattle.tp_syntax.specs.Problems.{Problem, SpellsProblem}
 use Rattle.tp_ground.specs.Reached.{IsReachedTask}
 use Rattle.tp_ground_joins.specs.Joined.{IsJoinedTask}
+use Rattle.tp_ground_laws.specs.WholeTasks.{IsWholeTask}
 use Rattle.tp_task.specs.declared.task.Task.{Task}
 use Rattle.tp_cli_inputs.specs.Named.{AreNamed}
 use Rattle.tp_cli_inputs.specs.declared.judging.JudgeFault.{JudgeFault}
 use Rattle.tp_cli_inputs.specs.declared.judging.JudgeFault.TheVariants as judge
 use Rattle.tp_cli_inputs.specs.declared.plan_words.PlanWords.{PlanWords}
 use Rattle.tp_cli_inputs.proofs.NamedLemmas.{Same, explains_over, in_over}
-use Rattle.tp_cli_plan.specs.Parts.{IsJoinedOf}
+use Rattle.tp_cli_plan.specs.Parts.{IsJoinedOf, IsWholeOf}
 use Rattle.tp_cli_plan.specs.SearchTasks.{ExplainsTask, IsSearchTask}
 use Rattle.tp_cli_plan.specs.Searches.{task_words}
 use Rattle.tp_cli_plan.specs.declared.search_words.SearchWords.{SearchWords}
@@ -29,6 +30,15 @@ search_task held w v d p task e are is =
 pub joined_of : (held : List ℕ → Option (List ℕ)) (w : SearchWords) (v : PlanWords) (d : Domain) (p : Problem) (task : Task) → v ≡ task_words w → AreNamed held (task_words w) d p → IsJoinedTask (greatest_limits v.horizon) v.scale d p task → IsJoinedOf held w task
 joined_of held w v d p task e are is =
     (d, p, are, subst (λ (x : PlanWords). IsJoinedTask (greatest_limits x.horizon) x.scale d p task) e is)
+
+pub whole_of : (held : List ℕ → Option (List ℕ)) (w : SearchWords) (v : PlanWords) (d : Domain) (p : Problem) (task : Task) → v ≡ task_words w → AreNamed held (task_words w) d p → IsJoinedTask (greatest_limits v.horizon) v.scale d p task → IsWholeTask (greatest_limits v.horizon) v.scale d p task → IsWholeOf held w task
+whole_of held w v d p task e are joined whole = (
+  d,
+  p,
+  are,
+  subst (λ (x : PlanWords). IsJoinedTask (greatest_limits x.horizon) x.scale d p task) e joined,
+  subst (λ (x : PlanWords). IsWholeTask (greatest_limits x.horizon) x.scale d p task) e whole,
+)
 
 pub task_explained : (a b : List ℕ → Option (List ℕ)) (w : PlanWords) (fault : JudgeFault) → Same a b → ExplainsTask a w fault → ExplainsTask b w fault
 task_explained a b w (judge.DomainFile fault) same h = explains_over a b w (judge.DomainFile fault) same h

@@ -1,13 +1,17 @@
 -- What is told where a search stops without an answer, and why it stops.
 use Rattle.std.specs.Prelude.{◌≡◌, ℕ, ◌+◌, List, Option, Bool, false, Result, Ok, Err, codes}
+use Rattle.tp_bounds.specs.RunLimits.{greatest_limits}
+use Rattle.tp_syntax.specs.Domains.{Domain}
+use Rattle.tp_syntax.specs.Problems.{Problem}
 use Rattle.tp_task.specs.declared.task.Task.{Task}
 use Rattle.tp_search.specs.tp_search_frontier.declared.fault.SearchFault.{SearchFault}
 use Rattle.tp_search.specs.tp_search_frontier.declared.fault.SearchFault.TheVariants as search
 use Rattle.tp_cli_files.specs.Causes.{raised}
 use Rattle.tp_cli_files.specs.FaultLines.{Tells, fault_line}
 use Rattle.tp_cli_inputs.specs.JudgeLines.{judge_status, judge_text, judge_unread}
-use Rattle.tp_cli_plan.specs.SearchTasks.{ExplainsTask, IsSearchTask}
-use Rattle.tp_cli_plan.specs.Searches.{SearchesSome, task_words}
+use Rattle.tp_cli_inputs.specs.Named.{AreNamed}
+use Rattle.tp_cli_plan.specs.SearchTasks.{ExplainsTask}
+use Rattle.tp_cli_plan.specs.Searches.{IsSearched, SearchesSome, task_words}
 use Rattle.tp_cli_plan.specs.declared.search_words.SearchWords.{SearchWords}
 use Rattle.tp_cli_plan.specs.declared.stops.SearchStop.{SearchStop}
 use Rattle.tp_cli_plan.specs.declared.stops.SearchStop.TheVariants.{Files, Searching, Write}
@@ -50,7 +54,8 @@ abbrev pub StopsSearch : (List ℕ → Option (List ℕ)) → SearchWords → Op
 StopsSearch held w before now (Files fault) =
     ExplainsTask held (task_words w) fault × (now ≡ before)
 StopsSearch held w before now (Searching fault) =
-    ((task : Task) × IsSearchTask held (task_words w) task) × (now ≡ before)
+    ((task : Task) × (d : Domain) × (p : Problem) × AreNamed held (task_words w) d p
+    × IsSearched w.order (greatest_limits w.horizon) w.scale d p task) × (now ≡ before)
 StopsSearch held w before now Write = SearchesSome held w before now
 
 -- It stopped so with that status, and that was told. A file that can't be read and a failed write are ones that the counts of failures tell

@@ -1,6 +1,6 @@
 //! The search for a plan of the problem in a file.
 
-ghost use Rattle.std.specs.Prelude.{◌≡◌, ◌≢◌, ◌≤◌, ℕ, List, [], Option, IfOk, IfErr, IfSome, false};
+ghost use Rattle.std.specs.Prelude.{◌≡◌, ◌≢◌, ◌≤◌, ℕ, List, [], Option, IfOk, IfErr, IfSome, true, false};
 ghost use Rattle.tp_cli_files.specs.FaultLines.{TellsFault};
 ghost use Rattle.tp_search.specs.tp_search_instant.Answers.{IsAnswer};
 ghost use Rattle.tp_cli_plan.specs.FoundText.{IsFoundOfTask};
@@ -9,7 +9,7 @@ ghost use Rattle.tp_cli_files.specs.Causes.{counted};
 ghost use Rattle.tp_syntax.specs.DomainViews.{domain_view, problem_view};
 ghost use Rattle.tp_solve.specs.Sought.{IsSought};
 ghost use Rattle.tp_cli_inputs.specs.Named.{AreNamed};
-ghost use Rattle.tp_cli_plan.specs.Parts.{IsJoinedOf, IsPart};
+ghost use Rattle.tp_cli_plan.specs.Parts.{IsJoinedOf, IsPart, IsWholeOf};
 ghost use Rattle.tp_cli_plan.specs.SearchTasks.{IsSearchTask};
 ghost use Rattle.tp_cli_plan.specs.Searches.{SaysNoPlan, Searches, SearchesPart, WritesPlan, task_words, tells_progress};
 ghost use Rattle.tp_cli_plan.specs.Telling.{StopsTelling, TellsFound};
@@ -25,7 +25,11 @@ use std::mem::forget;
 use tp_cli_files::{Files, OUT_OF_ORDER, REFUSED, complain};
 use tp_device::Sink;
 use tp_ground::{actions_are_readable, reached_actions_are_readable};
-use tp_ground_laws::{plans_of_some_are_plans, same_goal_is_in_reach, same_plans_are_valid};
+use tp_ground_joins::JoinedTask;
+use tp_ground_laws::{
+    plans_of_some_are_plans, same_goal_is_in_reach, same_plans_are_valid,
+    whole_tasks_have_all_plans,
+};
 use tp_ground_named::chosen_actions_are_readable;
 use tp_happen::plans_are_read;
 use tp_search::{Found, SearchFault, search_with};
@@ -134,12 +138,12 @@ fn plan_reached<B: Write, O: Sink>(
     }
 }
 
-/// What came of the guided search of the task that joins leave.
+/// What came of the search of the task that joins leave.
 #[derive(Clone, Copy)]
 pub(crate) enum Part {
-    /// A plan was found and written.
-    Planned,
-    /// None was found with so many expansions.
+    /// What was found was written, and whether that is a plan.
+    Answered(bool),
+    /// No plan was found with so many expansions of the guided search.
     Spent(u32),
     /// There is no such task, or its search has no answer, as for want of memory.
     NoTask,
@@ -171,7 +175,7 @@ fn tell_plan<'t, O: Sink>(
     chosen_actions_are_readable();
     plans_of_some_are_plans();
     match tell(&Found::Plan(plan), output) {
-        Ok(_) => Ok(Part::Planned),
+        Ok(_) => Ok(Part::Answered(true)),
         Err(stop) => Err(stop),
     }
 }
@@ -226,6 +230,69 @@ fn propose_of<B: Write, O: Sink>(
     }
 }
 
+/// Searches for a plan of a task that has each action that a valid plan may have, and writes it, or
+/// why there is none.
+fn solve_whole<B: Write, O: Sink>(
+    alloc: Global,
+    words: SearchWords<'_>,
+    wishes: Wishes,
+    task: &Task,
+    board: &mut B,
+    output: &mut O,
+) -> Result<Part, SearchStop>
+    requires limit { words.horizon ≤ 1000000000 }
+    requires order { words.order ≡ Guided wishes }
+    ensures said { (held : List ℕ → Option (List ℕ)) → IsWholeOf held words.entry task.now
+        → IfOk result (IsPart held words.entry (O.held output.old) (O.held output.new)) }
+    ensures cause { (held : List ℕ → Option (List ℕ)) → IsWholeOf held words.entry task.now
+        → IfErr result (StopsSearch held words.entry (O.held output.old) (O.held output.new)) }
+    ensures failures { O.failures output.new ≡ stop_failures (O.failures output.old) result }
+    ensures opened { (n : ℕ) → counted stop_unread n result ≡ n }
+    ensures quiet { wishes.progress ≡ false → board.new ≡ board.old }
+{
+    let _ = wishes;
+    plans_are_read();
+    actions_are_readable();
+    chosen_actions_are_readable();
+    plans_of_some_are_plans();
+    whole_tasks_have_all_plans();
+    match found_in(alloc, words, task, None, board) {
+        Ok(found) => match tell(&found, output) {
+            Ok(planned) => Ok(Part::Answered(planned)),
+            Err(stop) => Err(stop),
+        },
+        Err(fault) => Err(SearchStop::Searching(fault)),
+    }
+}
+
+/// Searches for a plan of the task that joins leave: where that is whole, by both searches.
+fn plan_some<B: Write, O: Sink>(
+    alloc: Global,
+    words: SearchWords<'_>,
+    wishes: Wishes,
+    joined: &JoinedTask,
+    board: &mut B,
+    output: &mut O,
+) -> Result<Part, SearchStop>
+    requires limit { words.horizon ≤ 1000000000 }
+    requires order { words.order ≡ Guided wishes }
+    ensures said { (held : List ℕ → Option (List ℕ)) → IsJoinedOf held words.entry
+        joined.now.task → (joined.now.is_whole ≡ true → IsWholeOf held words.entry joined.now.task)
+        → IfOk result (IsPart held words.entry (O.held output.old) (O.held output.new)) }
+    ensures cause { (held : List ℕ → Option (List ℕ)) → IsJoinedOf held words.entry
+        joined.now.task → (joined.now.is_whole ≡ true → IsWholeOf held words.entry joined.now.task)
+        → IfErr result (StopsSearch held words.entry (O.held output.old) (O.held output.new)) }
+    ensures failures { O.failures output.new ≡ stop_failures (O.failures output.old) result }
+    ensures opened { (n : ℕ) → counted stop_unread n result ≡ n }
+    ensures quiet { wishes.progress ≡ false → board.new ≡ board.old }
+{
+    if joined.is_whole {
+        solve_whole(alloc, words, wishes, &joined.task, board, output)
+    } else {
+        propose_of(alloc, words, wishes, &joined.task, board, output)
+    }
+}
+
 /// The same of the task that joins leave, if there is one within the limits.
 fn plan_joined<B: Write, O: Sink>(
     alloc: Global,
@@ -248,7 +315,7 @@ fn plan_joined<B: Write, O: Sink>(
     ensures quiet { wishes.progress ≡ false → board.new ≡ board.old }
 {
     match joined_task(alloc, words.task_words(), inputs) {
-        Some(task) => propose_of(alloc, words, wishes, &task, board, output),
+        Some(joined) => plan_some(alloc, words, wishes, &joined, board, output),
         None => Ok(Part::NoTask),
     }
 }
@@ -277,7 +344,7 @@ fn plan_rest<B: Write, O: Sink>(
     ensures quiet { tells_progress words.entry.order ≡ false → board.new ≡ board.old }
 {
     match part {
-        Part::Planned => Ok(true),
+        Part::Answered(planned) => Ok(planned),
         Part::Spent(spent) => plan_reached(alloc, words, inputs, Some(spent), board, output),
         Part::NoTask => plan_reached(alloc, words, inputs, None, board, output),
     }
@@ -371,9 +438,9 @@ fn plan<N: Files, B: Write, O: Sink>(
 /// another writes one fault line.
 ///
 /// The search is of the task that `ground_reached` makes: no more actions than its relaxed reach
-/// keeps. In the guided order the task that `ground_joined` makes is searched first, by the guided
-/// search alone; where that proposes no valid plan, the other order answers with what is left of
-/// the budget. The cost is that of reading both texts, of grounding and of the search. What a
+/// keeps. In the guided order the task that `ground_joined` makes is searched in its place where it
+/// is whole; else the guided search alone has it first, and where that proposes no valid plan, the
+/// other order answers with what is left of the budget. The cost is that of reading both texts, of grounding and of the search. What a
 /// guided search tells of plans as it finds them goes to `board`, if the words wish for it.
 pub fn run_plan<N: Files, B: Write, O: Sink, F: Sink>(
     alloc: Global,

@@ -1,12 +1,13 @@
 //! The domain and the problem in two files, and tasks of them: of the actions that the relaxed
 //! reach keeps, and of those that joins of static conditions leave.
 
-ghost use Rattle.std.specs.Prelude.{◌≡◌, ◌≤◌, ℕ, List, Option, IfOk, IfErr, IfSome};
+ghost use Rattle.std.specs.Prelude.{◌≡◌, ◌≤◌, ℕ, true, List, Option, IfOk, IfErr, IfSome};
 ghost use Rattle.tp_bounds.specs.RunLimits.{greatest_limits};
 ghost use Rattle.tp_syntax.specs.DomainViews.{domain_view, problem_view};
 ghost use Rattle.tp_syntax.specs.Domains.{SpellsDomain};
 ghost use Rattle.tp_ground.specs.Reached.{IsReachedTask};
 ghost use Rattle.tp_ground_joins.specs.Joined.{IsJoinedTask};
+ghost use Rattle.tp_ground_laws.specs.WholeTasks.{IsWholeTask};
 ghost use Rattle.tp_cli_files.specs.Causes.{counted};
 ghost use Rattle.tp_cli_inputs.specs.JudgeLines.{judge_unread};
 ghost use Rattle.tp_cli_inputs.specs.Named.{AreNamed, IsIn};
@@ -17,7 +18,7 @@ use tp_bounds::Limits;
 use tp_cli_files::Files;
 use tp_cli_inputs::{JudgeFault, PlanWords, domain_in, problem_in};
 use tp_ground::ground_reached;
-use tp_ground_joins::ground_joined;
+use tp_ground_joins::{JoinedTask, ground_joined};
 use tp_ground_named::begin;
 use tp_syntax::{Domain, Problem};
 use tp_task::Task;
@@ -85,10 +86,18 @@ pub(crate) fn reached_task(
 }
 
 /// The task of the actions that joins leave, None where it has none within the limits.
-pub(crate) fn joined_task(alloc: Global, words: PlanWords<'_>, inputs: &Inputs) -> Option<Task>
+pub(crate) fn joined_task(
+    alloc: Global,
+    words: PlanWords<'_>,
+    inputs: &Inputs,
+) -> Option<JoinedTask>
     requires { words.horizon ≤ 1000000000 }
-    ensures { IfSome result (IsJoinedTask (greatest_limits words.entry.horizon)
-        words.entry.scale (domain_view inputs.now.domain) (problem_view inputs.now.problem)) }
+    ensures some { IfSome result (λ j. IsJoinedTask (greatest_limits words.entry.horizon)
+        words.entry.scale (domain_view inputs.now.domain) (problem_view inputs.now.problem)
+        j.task) }
+    ensures whole { IfSome result (λ j. j.is_whole ≡ true → IsWholeTask (greatest_limits
+        words.entry.horizon) words.entry.scale (domain_view inputs.now.domain)
+        (problem_view inputs.now.problem) j.task) }
 {
     let limits = Limits::greatest(words.horizon);
     let domain = &inputs.domain;
@@ -96,7 +105,7 @@ pub(crate) fn joined_task(alloc: Global, words: PlanWords<'_>, inputs: &Inputs) 
     match begin(alloc, domain, problem, &limits) {
         Ok(begun) => {
             match ground_joined(alloc, domain, problem, begun, &limits, words.scale) {
-                Ok(joined) => Some(joined.task),
+                Ok(joined) => Some(joined),
                 Err(_) => None,
             }
         }

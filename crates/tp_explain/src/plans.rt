@@ -10,8 +10,12 @@ use tp_explain_faults::{Call, ReadText, read_text, text_of};
 use tp_explain_syntax::section_of;
 use tp_explain_text::{Moment, Page, put};
 use tp_ground::ground_reached;
+use tp_ground_joins::ground_joined;
+use tp_ground_named::begin;
+use tp_syntax::{Domain, Problem};
 use tp_task::Task;
 use tp_task_reachability::reach;
+use tp_text::Scale;
 
 fn put_horizon(page: &mut Page, call: &Call<'_>) {
     let moment = Moment(call.scale.ticks(), u64::from(call.horizon));
@@ -43,12 +47,35 @@ pub fn put_exhausted(page: &mut Page, call: &Call<'_>) {
     put_horizon(page, call);
 }
 
-/// The task of a call, with the actions in reach.
+/// The task of each action that a valid plan may have, if joins find it.
+fn whole_task(
+    alloc: Global,
+    domain: &Domain,
+    problem: &Problem,
+    limits: &Limits,
+    scale: Scale,
+) -> Option<Task> {
+    let begun = begin(alloc, domain, problem, limits).ok()?;
+    let joined = ground_joined(alloc, domain, problem, begun, limits, scale).ok()?;
+    if joined.is_whole {
+        Some(joined.task)
+    } else {
+        None
+    }
+}
+
+/// The task that a call searches: with the actions in reach, or of `solve` with those of use.
 fn task_of<N: Files>(alloc: Global, files: &mut N, call: &Call<'_>) -> Option<Task> {
     let words = plan_words(call)?;
     let domain = domain_in(alloc, files, words).ok()?;
     let problem = problem_in(alloc, files, words, &domain).ok()?;
     let limits = Limits::greatest(words.horizon);
+    if call.command == "solve" {
+        let whole = whole_task(alloc, &domain, &problem, &limits, call.scale);
+        if whole.is_some() {
+            return whole;
+        }
+    }
     ground_reached(alloc, &domain, &problem, &limits, call.scale).ok()
 }
 

@@ -6,9 +6,9 @@ use Rattle.tp_cli_plan.specs.Searches.{Searches}
 use Rattle.tp_cli_plan.specs.declared.planning.Part.{Part}
 use Rattle.tp_cli_plan.proofs.planning.plan_rest.Goals as goal
 
-pub returns-in-Planned-clause-said : goal.returns-in-Planned-clause-said
-returns-in-Planned-clause-said g c =
-    λ held before are is. subst (λ (x : Part). IsPart held c.args.words before (g.O.Sink.held c.args.output.now) x) c.in-Planned.is is
+pub returns-in-Answered-clause-said : goal.returns-in-Answered-clause-said
+returns-in-Answered-clause-said g c =
+    λ held before are is. subst (λ (x : Part). IsPart held c.args.words before (g.O.Sink.held c.args.output.now) x) c.in-Answered.is is
 
 pub returns-in-Spent-clause-said : goal.returns-in-Spent-clause-said
 returns-in-Spent-clause-said g c =
