@@ -10,8 +10,7 @@ use tp_explain_faults::{Call, ReadText, read_text, text_of};
 use tp_explain_syntax::section_of;
 use tp_explain_text::{Moment, Page, put};
 use tp_ground::ground_reached;
-use tp_task::Task;
-use tp_task_reachability::reach;
+use tp_task::{Task, reach};
 
 fn put_horizon(page: &mut Page, call: &Call<'_>) {
     let moment = Moment(call.scale.ticks(), u64::from(call.horizon));
