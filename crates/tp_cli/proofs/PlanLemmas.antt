@@ -14,10 +14,10 @@ use Rattle.tp_deorder.specs.Answers.{IsPlanNetOf, OnTooMany, PassesLimits}
 use Rattle.tp_deorder.specs.declared.DeorderFault.{DeorderFault}
 use Rattle.tp_cli_files.specs.Causes.{raised}
 use Rattle.tp_cli_files.specs.FaultLines.{Tells}
-use Rattle.tp_cli_check.specs.Files.{IsJudged}
-use Rattle.tp_cli_check.specs.Judgements.{IsJudgement, judgement_line}
-use Rattle.tp_cli_check.specs.declared.judgements.Judgement.{Judgement}
-use Rattle.tp_cli_check.specs.declared.judgements.Judgement.TheVariants as judgements
+use Rattle.tp_cli.specs.Files.{IsJudged}
+use Rattle.tp_cli.specs.Judgements.{IsJudgement, judgement_line}
+use Rattle.tp_cli.specs.declared.judgements.Judgement.{Judgement}
+use Rattle.tp_cli.specs.declared.judgements.Judgement.TheVariants as judgements
 use Rattle.tp_cli_inputs.specs.Named.{IsNamedPlan}
 use Rattle.tp_cli_inputs.specs.VerdictLines.{invalid_line}
 use Rattle.tp_cli_inputs.specs.declared.plan_words.PlanWords.{PlanWords}

@@ -7,9 +7,9 @@ use Rattle.tp_happen.specs.tp_plan_text.declared.plans.Step.{Step}
 use Rattle.tp_validate.specs.Answers.{IsFirst}
 use Rattle.tp_validate.specs.OfTask.{IsValidPlan}
 use Rattle.tp_validate.specs.declared.ticks.Fault.{Fault}
-use Rattle.tp_cli_check.specs.Judgements.{judgement_line}
-use Rattle.tp_cli_check.specs.declared.judgements.Judgement.{Judgement}
-use Rattle.tp_cli_check.specs.declared.judgements.Judgement.TheVariants.{Valid, Invalid}
+use Rattle.tp_cli.specs.Judgements.{judgement_line}
+use Rattle.tp_cli.specs.declared.judgements.Judgement.{Judgement}
+use Rattle.tp_cli.specs.declared.judgements.Judgement.TheVariants.{Valid, Invalid}
 use Rattle.tp_cli_inputs.specs.Named.{IsNamedPlan}
 use Rattle.tp_cli_inputs.specs.VerdictLines.{invalid_line}
 use Rattle.tp_cli_inputs.specs.declared.plan_words.PlanWords.{PlanWords}

@@ -7,9 +7,10 @@ ghost use Rattle.tp_cli.specs.Checks.{EndsCheck, Says, SaysPart, SaysValid, Stop
 ghost use Rattle.tp_cli.specs.Stops.{stop_failures, stop_unread};
 ghost use Rattle.tp_cli_files.specs.Causes.{counted};
 
+use crate::judgements::{Judgement, write_judgement};
+use crate::judging::judge_in;
 use crate::stops::{PlanStop, stop_line};
 use std::alloc::Global;
-use tp_cli_check::{Judgement, judge_in, write_judgement};
 use tp_cli_files::{Files, OUT_OF_ORDER, REFUSED, complain};
 use tp_cli_inputs::PlanWords;
 use tp_device::Sink;

@@ -7,21 +7,22 @@
 //!
 //! - `words`: the doing of what the words of a call ask for, over any files, reader and writers
 //! - `desk`: the files of a call
-//! - `check`: the judging of the plan in a file
+//! - `check`, `judging`, `judgements`: the judging of the plan in a file, and what is told of it
 //! - `net`: the network of the plan in a file
 //! - `stops`: why a command on a plan stopped, and its line
 //! - `streams`: a run over readers and writers of std
 //!
 //! The words of a call are read by `tp_cli_args`. Commands on a network of bounds alone are those
-//! of `tp_cli_bare`, files and fault lines those of `tp_cli_files`, the judging of a plan that of
-//! `tp_cli_check`, tasks and verdicts of files beside that those of `tp_cli_inputs`, runs of plans
-//! those of `tp_cli_run`, runs that go on those of `tp_cli_resume`, searches those of
+//! of `tp_cli_bare`, files and fault lines those of `tp_cli_files`, tasks and verdicts of files
+//! those of `tp_cli_inputs`, runs of plans those of `tp_cli_run`, runs that go on those of `tp_cli_resume`, searches those of
 //! `tp_cli_plan`, audits those of `tp_cli_audit`, splits those of `tp_cli_split`, drawings those of
 //! `tp_cli_draw`.
 #![tactic(auto)]
 
 mod check;
 mod desk;
+mod judgements;
+mod judging;
 mod net;
 mod stops;
 mod streams;

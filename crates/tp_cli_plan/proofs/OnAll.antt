@@ -14,9 +14,9 @@ use Rattle.tp_happen.specs.tp_plan_text.Steps.{IsPlan, ends_in_time}
 use Rattle.tp_happen.specs.tp_plan_text.TaskWords.{is_durative}
 use Rattle.tp_happen.specs.tp_plan_text.declared.plans.Step.{Step}
 use Rattle.tp_validate.specs.OfTask.{IsOfTask, IsValidPlan, is_step_of}
-use Rattle.tp_task_reachability.specs.TaskReach.{GoalIs}
-use Rattle.tp_search.specs.tp_search_instant.Plans.{HasNoPlan, IsInstantStep, IsPlanAtOnce, DifferFrom, OfDistinctActions, ends_by}
-use Rattle.tp_search.specs.tp_search_instant.Promised.{IsExhausted, IsSpent, IsUnreachable}
+use Rattle.tp_task.specs.TaskReach.{GoalIs}
+use Rattle.tp_search.specs.tp_search.Plans.{HasNoPlan, IsInstantStep, IsPlanAtOnce, DifferFrom, OfDistinctActions, ends_by}
+use Rattle.tp_search.specs.tp_search.Promised.{IsExhausted, IsSpent, IsUnreachable}
 use Rattle.tp_ground_laws.specs.SamePlans.{IsSameStep, AreSameSteps, HaveSamePlans}
 
 module _ (t u : Task) where

@@ -9,7 +9,7 @@ use Rattle.tp_bounds.specs.declared.plan_nets.PlanNet.{PlanNet}
 use Rattle.tp_exec_machine.specs.Machine.{Machine, IsFresh, plan_machine}
 use Rattle.tp_exec_machine.proofs.Ready.{fresh_new}
 use Rattle.tp_agents.specs.Parts.{IsPart}
-use Rattle.tp_agents_laws.specs.PartRuns.{BeginsPart}
+use Rattle.tp_exec_laws.specs.PartRuns.{BeginsPart}
 
 -- an executive over the network of a part that is new
 pub begins_new : (s : Setting) (owners : List ℕ) (xs : List (Option (ℕ × ℕ))) (agent : ℕ) (part : PlanNet) (net : Setting) (events horizon : ℕ) (limits : RunLimits) (m : Machine) → IsPart s owners xs agent part → net ≡ fresh events horizon → events ≡ length part.events.items → horizon ≡ part.horizon → m ≡ plan_machine net part.bounds.items limits → BeginsPart s owners xs agent m

@@ -2,8 +2,7 @@
 
 use std::alloc::{AllocError, Global};
 use tp_explain_text::{At, Page, Source, Tree, put, put_mark};
-use tp_task::{AtomId, Cond, Task};
-use tp_task_reachability::met;
+use tp_task::{AtomId, Cond, Task, met};
 
 /// A conjunct as it is written, and as it is of the task.
 #[derive(Clone, Copy)]

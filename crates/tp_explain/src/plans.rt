@@ -13,8 +13,7 @@ use tp_ground::ground_reached;
 use tp_ground_joins::ground_joined;
 use tp_ground_named::begin;
 use tp_syntax::{Domain, Problem};
-use tp_task::Task;
-use tp_task_reachability::reach;
+use tp_task::{Task, reach};
 use tp_text::Scale;
 
 fn put_horizon(page: &mut Page, call: &Call<'_>) {

@@ -15,11 +15,11 @@ use Rattle.tp_task.specs.declared.fault.GroundFault.{GroundFault}
 use Rattle.tp_task.specs.declared.fault.GroundFault.TheVariants as faults
 use Rattle.tp_task.specs.declared.fault.TooManyKind.TheVariants as kinds
 use Rattle.tp_ground_bindings.specs.Bindings.{Universe, bindings, universe_of}
-use Rattle.tp_ground_effects.specs.Written.{GroundAction, condition_in}
-use Rattle.tp_ground_effects.specs.Mentions.{Mentions, ◌then◌, of_condition, of_each}
-use Rattle.tp_ground_effects.proofs.OnLowered.{of_each-append}
-use Rattle.tp_ground_actions.specs.Initially.{initial_in, of_initial}
-use Rattle.tp_ground_actions.specs.Grounding.{ground_action, ground_actions, of_action, mentioned, IsTask, HasNoTask}
+use Rattle.tp_ground_bodies.specs.Written.{GroundAction, condition_in}
+use Rattle.tp_ground_bodies.specs.Mentions.{Mentions, ◌then◌, of_condition, of_each}
+use Rattle.tp_ground_bodies.proofs.OnLowered.{of_each-append}
+use Rattle.tp_ground.specs.Initially.{initial_in, of_initial}
+use Rattle.tp_ground.specs.Grounding.{ground_action, ground_actions, of_action, mentioned, IsTask, HasNoTask}
 use Rattle.tp_ground.specs.Reached.{Instance, instances, action_of, of_instance, mentioned_of, IsTaskOf}
 use Rattle.tp_ground.proofs.OnInstances.{bound_to, each_view}
 

@@ -10,17 +10,17 @@ use Rattle.tp_task.specs.Fits.{body_fits, event_fits}
 use Rattle.tp_task.specs.Tables.{Tables}
 use Rattle.tp_task.specs.declared.events.Body.{Body}
 use Rattle.tp_task.specs.declared.events.Body.TheVariants.{Instant, Durative}
-use Rattle.tp_task_reachability.specs.Rounds.{adds_in, adds_fit}
+use Rattle.tp_task.specs.Rounds.{adds_in, adds_fit}
 use Rattle.tp_ground_bindings.specs.Bindings.{Universe, universe_of}
-use Rattle.tp_ground_effects.specs.ReadBack.{named_body}
-use Rattle.tp_ground_actions.specs.Initially.{initial_in, named_initial}
+use Rattle.tp_ground_bodies.specs.ReadBack.{named_body}
+use Rattle.tp_ground.specs.Initially.{initial_in, named_initial}
 use Rattle.tp_bounds.specs.RunLimits.{RunLimits}
-use Rattle.tp_ground_actions.specs.Grounding.{HasNoTask, ground_actions, mentioned}
+use Rattle.tp_ground.specs.Grounding.{HasNoTask, ground_actions, mentioned}
 use Rattle.tp_task.specs.declared.fault.GroundFault.{GroundFault}
 use Rattle.tp_task.specs.declared.fault.GroundFault.TheVariants as faults
 use Rattle.tp_task.specs.declared.fault.TooManyKind.TheVariants as kinds
 use Rattle.tp_ground.specs.Reached.{AreKept, HasNoReachedTask, Instance, IsReach, action_of, happenings_of, instances, is_kept}
-use Rattle.tp_ground_effects.specs.Lowered.{IsLowered}
+use Rattle.tp_ground_bodies.specs.Lowered.{IsLowered}
 use Rattle.tp_ground.specs.Instances.{written_with, of_task_with, AreReached, AreFlags}
 use Rattle.tp_ground.specs.WrittenTasks.{WrittenTask, named_task}
 use Rattle.tp_ground.specs.declared.tasks.LoweredTask.{LoweredTask}

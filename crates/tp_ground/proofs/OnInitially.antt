@@ -12,9 +12,9 @@ use Rattle.tp_syntax_ast.specs.Problems as problems
 use Rattle.tp_syntax_ast.specs.Problems.{Initial}
 use Rattle.tp_ground_bindings.specs.Bindings.{object_for, words_in}
 use Rattle.tp_task.specs.Tables.{Tables, words_at}
-use Rattle.tp_ground_actions.specs.Initially.{initial_in, is_initially_true, initial_value, or_else, named_initial, true_at, value_at}
-use Rattle.tp_ground_actions.specs.declared.beginning.NumberedInitial.{NumberedInitial}
-use Rattle.tp_ground_actions.specs.declared.beginning.NumberedInitial.TheVariants as numbered
+use Rattle.tp_ground.specs.Initially.{initial_in, is_initially_true, initial_value, or_else, named_initial, true_at, value_at}
+use Rattle.tp_ground.specs.declared.beginning.NumberedInitial.{NumberedInitial}
+use Rattle.tp_ground.specs.declared.beginning.NumberedInitial.TheVariants as numbered
 
 words_equiv : IsEquivalence same_words
 words_equiv = lists_equiv nat_list_eq_equiv

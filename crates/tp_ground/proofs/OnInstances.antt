@@ -10,7 +10,7 @@ use Rattle.tp_syntax_ast.specs.Actions as actions
 use Rattle.tp_ground_bindings.specs.Bindings.{Universe, bindings}
 use Rattle.tp_ground.specs.Reached.{Instance, instances}
 use Rattle.tp_syntax_ast.specs.DomainViews.{action_view}
-use Rattle.tp_ground_effects.specs.Mentions.{Mentions, ◌then◌, of_each}
+use Rattle.tp_ground_bodies.specs.Mentions.{Mentions, ◌then◌, of_each}
 use Rattle.tp_syntax_ast.specs.declared.action.Action.{Action}
 use Rattle.tp_ground_bindings.proofs.Along.{map_next}
 

@@ -11,12 +11,12 @@ use Rattle.tp_task.specs.declared.events.Expr.{Expr}
 use Rattle.tp_task.specs.Tables.{Tables, words_at}
 use Rattle.tp_task.specs.Reach as numbers
 use Rattle.tp_task.specs.Words.{Words}
-use Rattle.tp_ground_effects.specs.ReadBack.{named_condition}
-use Rattle.tp_ground_effects.specs.Written.{GroundCondition, GroundConditions, atom, compared, negation, all_of, any_of, no_conditions, condition, conditions_from}
-use Rattle.tp_ground_actions.proofs.OnFits.{are_words}
-use Rattle.tp_ground_effects.proofs.OnConditions.{named_And, named_Or, named_Not, named_Atom, named_Compare}
-use Rattle.tp_task_reachability.specs.Rounds.{over}
-use Rattle.tp_task_reachability.proofs.Rows.{met_And, met_Or}
+use Rattle.tp_ground_bodies.specs.ReadBack.{named_condition}
+use Rattle.tp_ground_bodies.specs.Written.{GroundCondition, GroundConditions, atom, compared, negation, all_of, any_of, no_conditions, condition, conditions_from}
+use Rattle.tp_ground.proofs.OnFits.{are_words}
+use Rattle.tp_ground_bodies.proofs.OnConditions.{named_And, named_Or, named_Not, named_Atom, named_Compare}
+use Rattle.tp_task.specs.Rounds.{over}
+use Rattle.tp_task.proofs.Rows.{met_And, met_Or}
 use Rattle.tp_ground.specs.Reached.{met, each_met, some_met}
 
 -- ---- what there is for each part

@@ -14,16 +14,16 @@ use Rattle.tp_task.specs.declared.events.GroundEvent.{GroundEvent}
 use Rattle.tp_task.specs.declared.events.Body.{Body}
 use Rattle.tp_task.specs.declared.events.Body.TheVariants.{Instant, Durative}
 use Rattle.tp_ground_bindings.specs.Bindings.{Universe}
-use Rattle.tp_ground_effects.specs.Written.{GroundHappening, GroundBody}
-use Rattle.tp_ground_effects.specs.ReadBack.{named_event, named_body}
-use Rattle.tp_ground_actions.specs.Initially.{initial_in, is_initially_true, named_initial, true_at}
-use Rattle.tp_ground_actions.specs.declared.beginning.NumberedInitial.{NumberedInitial}
-use Rattle.tp_ground_actions.specs.declared.beginning.NumberedInitial.TheVariants as numbered
+use Rattle.tp_ground_bodies.specs.Written.{GroundHappening, GroundBody}
+use Rattle.tp_ground_bodies.specs.ReadBack.{named_event, named_body}
+use Rattle.tp_ground.specs.Initially.{initial_in, is_initially_true, named_initial, true_at}
+use Rattle.tp_ground.specs.declared.beginning.NumberedInitial.{NumberedInitial}
+use Rattle.tp_ground.specs.declared.beginning.NumberedInitial.TheVariants as numbered
 use Rattle.tp_ground.proofs.OnInitially.{true_there, same_words-Decides, apart}
-use Rattle.tp_task_reachability.specs.Rounds.{set_of, acts_in, acts_of_bodies, adds_in, adds_fit}
-use Rattle.tp_task_reachability.specs.Adding.{HasAdded, Adds, IsSettled}
+use Rattle.tp_task.specs.Rounds.{set_of, acts_in, acts_of_bodies, adds_in, adds_fit}
+use Rattle.tp_task.specs.Adding.{HasAdded, Adds, IsSettled}
 use Rattle.tp_ground.specs.Reached.{met, is_kept, happenings_of, Instance, action_of, IsClosed, IsReach}
-use Rattle.tp_ground_actions.proofs.OnFits.{are_words, in_range}
+use Rattle.tp_ground.proofs.OnFits.{are_words, in_range}
 use Rattle.tp_ground.proofs.OnMet.{worded, met_same}
 use Rattle.tp_ground.proofs.OnWorded.{asks_words, instance_asks, instances_ask}
 

@@ -15,24 +15,24 @@ use Rattle.tp_task.specs.Words.{Words, same_words, with_all, firsts}
 use Rattle.tp_ground_bindings.specs.Bindings.{Universe, Env, bound, universe_of}
 use Rattle.tp_task.specs.Fits.{body_fits}
 use Rattle.tp_task.specs.Tables.{Tables}
-use Rattle.tp_ground_effects.specs.Written.{GroundCondition, GroundBody, condition_in, body_in}
-use Rattle.tp_ground_effects.specs.Mentions.{Mentions, ◌then◌, of_condition, of_each}
-use Rattle.tp_ground_effects.specs.ReadBack.{named_condition, named_body}
-use Rattle.tp_ground_actions.specs.Initially.{GroundInitial, initial_in, of_initial, named_initial, is_initially_true, initial_value}
-use Rattle.tp_ground_effects.specs.Lowered.{Notes, Extends, IsLowered, Overflows}
+use Rattle.tp_ground_bodies.specs.Written.{GroundCondition, GroundBody, condition_in, body_in}
+use Rattle.tp_ground_bodies.specs.Mentions.{Mentions, ◌then◌, of_condition, of_each}
+use Rattle.tp_ground_bodies.specs.ReadBack.{named_condition, named_body}
+use Rattle.tp_ground.specs.Initially.{GroundInitial, initial_in, of_initial, named_initial, is_initially_true, initial_value}
+use Rattle.tp_ground_bodies.specs.Lowered.{Notes, Extends, IsLowered, Overflows}
 use Rattle.tp_ground.specs.Reached.{Instance, IsTaskOf, action_of, mentioned_of}
 use Rattle.tp_ground.specs.Instances.{written_with}
 use Rattle.tp_ground.specs.WrittenTasks.{WrittenTask, named_task, IsMade}
-use Rattle.tp_ground_actions.specs.declared.beginning.NumberedInitial.{NumberedInitial}
+use Rattle.tp_ground.specs.declared.beginning.NumberedInitial.{NumberedInitial}
 use Rattle.tp_ground.specs.declared.tasks.LoweredTask.{LoweredTask}
 use Rattle.tp_task.specs.declared.task.Task.{Task}
 use Rattle.tp_task.specs.declared.fault.GroundFault.{GroundFault}
 use Rattle.tp_task.specs.declared.events.Cond.{Cond}
 use Rattle.tp_task.specs.declared.events.Body.{Body}
-use Rattle.tp_ground_effects.proofs.OnBodies.{at_first, at_second, at_third}
-use Rattle.tp_ground_actions.proofs.OnFits.{body_fits_of}
+use Rattle.tp_ground_bodies.proofs.OnBodies.{at_first, at_second, at_third}
+use Rattle.tp_ground.proofs.OnFits.{body_fits_of}
 use Rattle.tp_ground.proofs.OnInitially.{with_all_distinct, true_there, value_there, same_reads}
-use Rattle.tp_ground_effects.proofs.OnLowered.{lowered_both, lowered_same}
+use Rattle.tp_ground_bodies.proofs.OnLowered.{lowered_both, lowered_same}
 
 entries_view : (is : List Initial) → map (λ i. initial_in (initial_view i)) is ≡ map initial_in (map initial_view is)
 entries_view [] = refl

@@ -12,8 +12,8 @@ use Rattle.tp_syntax_ast.specs.Actions as actions
 use Rattle.tp_syntax_ast.specs.declared.words.TimeSpecifier.{TimeSpecifier}
 use Rattle.tp_syntax_ast.specs.declared.words.TimeSpecifier.TheVariants.{AtStart, AtEnd}
 use Rattle.tp_ground_bindings.specs.Bindings.{Universe, Env, bound, object_for}
-use Rattle.tp_ground_effects.specs.Written.{GroundCondition, GroundHappening, conditions_from, inner, always, never, condition_in, conditions_in, condition_part, conjuncts_at, condition_at, is_specifier, body_in}
-use Rattle.tp_ground_actions.proofs.OnFits.{parts_ok}
+use Rattle.tp_ground_bodies.specs.Written.{GroundCondition, GroundHappening, conditions_from, inner, always, never, condition_in, conditions_in, condition_part, conjuncts_at, condition_at, is_specifier, body_in}
+use Rattle.tp_ground.proofs.OnFits.{parts_ok}
 use Rattle.tp_ground.specs.Reached.{Instance, action_of, happenings_of}
 use Rattle.tp_ground.proofs.OnMet.{worded, all_worded}
 

@@ -13,8 +13,8 @@ use Rattle.tp_syntax_ast.specs.declared.words.TimeSpecifier.TheVariants.{AtStart
 use Rattle.tp_task.specs.declared.events.Comparison.TheVariants.{Equal}
 use Rattle.tp_task.specs.Words.{firsts}
 use Rattle.tp_ground_bindings.specs.Bindings.{Universe, Env, bindings, bound}
-use Rattle.tp_ground_effects.specs.Written.{number, atom, negation, all_of, any_of, no_conditions, condition, always, never, durative, condition_in, body_in}
-use Rattle.tp_ground_effects.specs.Mentions.{of_body}
+use Rattle.tp_ground_bodies.specs.Written.{number, atom, negation, all_of, any_of, no_conditions, condition, always, never, durative, condition_in, body_in}
+use Rattle.tp_ground_bodies.specs.Mentions.{of_body}
 
 -- (:types match fuse), (:objects m1 - match f1 - fuse)
 abbrev universe : Universe

@@ -6,13 +6,13 @@ use Rattle.tp_syntax_ast.specs.Problems.{Initial}
 use Rattle.tp_task.specs.Reach.{met}
 use Rattle.tp_task.specs.Words.{Words}
 use Rattle.tp_task.specs.declared.events.Body.{Body}
-use Rattle.tp_task_reachability.specs.Rounds.{set_of, acts_in, acts_of_bodies}
-use Rattle.tp_task_reachability.specs.Adding.{Adds, IsSettled}
+use Rattle.tp_task.specs.Rounds.{set_of, acts_in, acts_of_bodies}
+use Rattle.tp_task.specs.Adding.{Adds, IsSettled}
 use Rattle.tp_ground_bindings.specs.Bindings.{Universe}
-use Rattle.tp_ground_effects.specs.Written.{condition_in}
+use Rattle.tp_ground_bodies.specs.Written.{condition_in}
 use Rattle.tp_syntax_ast.specs.DomainViews.{action_view}
-use Rattle.tp_ground_effects.specs.Mentions.{Mentions, ◌then◌, of_condition, of_each}
-use Rattle.tp_ground_actions.specs.Initially.{GroundInitial, initial_in, of_initial, true_at}
+use Rattle.tp_ground_bodies.specs.Mentions.{Mentions, ◌then◌, of_condition, of_each}
+use Rattle.tp_ground.specs.Initially.{GroundInitial, initial_in, of_initial, true_at}
 use Rattle.tp_ground.specs.WrittenTasks.{WrittenTask}
 use Rattle.tp_ground.specs.Reached.{Instance, action_of, of_instance, happenings_of, is_kept, IsReach}
 use Rattle.tp_ground.specs.declared.instances.Instance as code

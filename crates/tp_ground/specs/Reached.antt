@@ -10,12 +10,12 @@ use Rattle.tp_text.specs.declared.number.Scale.{Scale}
 use Rattle.tp_task.specs.Words.{Words, has_words, firsts}
 use Rattle.tp_task.specs.Bounds.{In}
 use Rattle.tp_ground_bindings.specs.Bindings.{Universe, bound, bindings, universe_of}
-use Rattle.tp_ground_effects.specs.Written.{GroundCondition, GroundConditions, atom, compared, negation, all_of, any_of, no_conditions, condition, GroundHappening, GroundBody, instant, durative, GroundAction, condition_in}
-use Rattle.tp_ground_effects.specs.Mentions.{Mentions, ◌then◌, of_condition, of_body, of_each}
-use Rattle.tp_ground_actions.specs.Great.{has_great_number}
-use Rattle.tp_ground_effects.specs.ReadBack.{named_condition, named_body}
-use Rattle.tp_ground_actions.specs.Initially.{GroundInitial, initial_in, of_initial, is_initially_true, initial_value}
-use Rattle.tp_ground_actions.specs.Grounding.{ground_action}
+use Rattle.tp_ground_bodies.specs.Written.{GroundCondition, GroundConditions, atom, compared, negation, all_of, any_of, no_conditions, condition, GroundHappening, GroundBody, instant, durative, GroundAction, condition_in}
+use Rattle.tp_ground_bodies.specs.Mentions.{Mentions, ◌then◌, of_condition, of_body, of_each}
+use Rattle.tp_ground.specs.Great.{has_great_number}
+use Rattle.tp_ground_bodies.specs.ReadBack.{named_condition, named_body}
+use Rattle.tp_ground.specs.Initially.{GroundInitial, initial_in, of_initial, is_initially_true, initial_value}
+use Rattle.tp_ground.specs.Grounding.{ground_action}
 use Rattle.tp_task.specs.declared.fault.GroundFault.{GroundFault}
 use Rattle.tp_task.specs.declared.fault.GroundFault.TheVariants as faults
 use Rattle.tp_task.specs.declared.fault.TooManyKind.TheVariants as kinds

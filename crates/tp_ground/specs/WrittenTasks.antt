@@ -3,9 +3,9 @@ use Rattle.std.specs.Prelude.{◌≡◌, ℕ, ◌<◌, List, map, length, false,
 use Rattle.tp_bounds.specs.RunLimits.{RunLimits}
 use Rattle.tp_text.specs.declared.number.Scale.{Scale}
 use Rattle.tp_task.specs.Tables.{Tables}
-use Rattle.tp_ground_effects.specs.Written.{GroundCondition, GroundBody}
-use Rattle.tp_ground_effects.specs.ReadBack.{named_condition, named_body}
-use Rattle.tp_ground_actions.specs.Initially.{GroundInitial, named_initial, true_at, value_at}
+use Rattle.tp_ground_bodies.specs.Written.{GroundCondition, GroundBody}
+use Rattle.tp_ground_bodies.specs.ReadBack.{named_condition, named_body}
+use Rattle.tp_ground.specs.Initially.{GroundInitial, named_initial, true_at, value_at}
 use Rattle.tp_ground.specs.declared.tasks.LoweredTask.{LoweredTask}
 use Rattle.tp_task.specs.declared.task.Task.{Task}
 

@@ -5,15 +5,15 @@ ghost use Rattle.std.specs.Prelude.{◌≡◌, ◌++◌, ◌∷◌, Bool, map, f
 ghost use Rattle.tp_syntax_ast.specs.DomainViews.{action_view};
 ghost use Rattle.tp_ground_bindings.specs.Left.{rows_left};
 ghost use Rattle.tp_ground_bindings.specs.Views.{universe_view};
-ghost use Rattle.tp_ground_effects.specs.Mentions.{of_each};
-ghost use Rattle.tp_ground_effects.specs.ReadBack.{named_body};
-ghost use Rattle.tp_ground_effects.specs.Lowered.{Lowers};
+ghost use Rattle.tp_ground_bodies.specs.Mentions.{of_each};
+ghost use Rattle.tp_ground_bodies.specs.ReadBack.{named_body};
+ghost use Rattle.tp_ground_bodies.specs.Lowered.{Lowers};
 ghost use Rattle.tp_ground.specs.Reached as reached;
 ghost use Rattle.tp_ground.specs.Reached.{instances, action_of, of_instance};
 ghost use Rattle.tp_ground.specs.Instances.{instance_view};
 
+use crate::grounding::lower_under;
 use std::alloc::{AllocError, Global};
-use tp_ground_actions::grounding::lower_under;
 use tp_ground_bindings::{Rows, Universe, copied, refill, rows_of};
 use tp_syntax_ast::Action;
 use tp_task::{Body, GroundFault, Numbering};

@@ -5,7 +5,7 @@ ghost use Rattle.tp_syntax_ast.specs.Domains.{Domain, SpellsDomain};
 ghost use Rattle.tp_syntax_ast.specs.Problems.{Problem, SpellsProblem};
 ghost use Rattle.tp_bounds.specs.RunLimits.{RunLimits};
 ghost use Rattle.tp_text.specs.declared.number.Scale.{Scale};
-ghost use Rattle.tp_ground_actions.specs.Grounding.{IsTask};
+ghost use Rattle.tp_ground.specs.Grounding.{IsTask};
 ghost use Rattle.tp_ground.specs.Reached.{IsReachedTask};
 ghost use Rattle.tp_task.specs.Readable.{AreReadable};
 ghost use Rattle.tp_task.specs.declared.task.Task.{Task};

@@ -4,26 +4,25 @@
 ghost use Rattle.std.specs.Prelude.{◌≡◌, ◌≤◌, ◌++◌, true, false, map, length, nat_lt, IfOk, IfErr, OnOk};
 ghost use Rattle.std.specs.List.{list_all};
 ghost use Rattle.tp_syntax_ast.specs.DomainViews.{domain_view, problem_view};
-ghost use Rattle.tp_task_reachability.specs.Rounds.{set_of, adds_fit};
+ghost use Rattle.tp_task.specs.Rounds.{set_of, adds_fit};
 ghost use Rattle.tp_ground_bindings.specs.Views.{universe_view};
-ghost use Rattle.tp_ground_actions.specs.Great.{has_great_number};
-ghost use Rattle.tp_ground_actions.specs.Initially.{initial_in};
-ghost use Rattle.tp_ground_effects.specs.Lowered.{IsLowered};
+ghost use Rattle.tp_ground.specs.Great.{has_great_number};
+ghost use Rattle.tp_ground.specs.Initially.{initial_in};
+ghost use Rattle.tp_ground_bodies.specs.Lowered.{IsLowered};
 ghost use Rattle.tp_ground_bindings.specs.Bindings.{universe_of};
 ghost use Rattle.tp_ground.specs.WrittenTasks.{named_task};
 ghost use Rattle.tp_ground.specs.Reached.{AreKept, IsReachedTask, HasNoReachedTask};
 ghost use Rattle.tp_ground.specs.Instances.{instance_view, written_with, of_task_with, has_met, AreMet, AreReached, AreFlags};
 
+use crate::beginning::truths;
 use crate::grounder::check;
 use crate::instances::{Instance, all_instances, flagged};
 use crate::tasks::{LoweredTask, lower_problem, task_with};
 use std::alloc::{AllocError, Global};
 use tp_bounds::Limits;
-use tp_ground_actions::beginning::truths;
 use tp_ground_bindings::{Universe, universe_of};
 use tp_syntax_ast::{Domain, Problem};
-use tp_task::{Body, GroundFault, Numbering, Task, TooManyKind};
-use tp_task_reachability::{met, saturate};
+use tp_task::{Body, GroundFault, Numbering, Task, TooManyKind, met, saturate};
 use tp_text::Scale;
 
 // ---- which are kept

@@ -1,5 +1,6 @@
-pub mod OnParts
-pub mod OnLevels
 pub mod OnCandidates
 pub mod OnClosed
+pub mod OnLevels
+pub mod OnParts
 pub mod OnPicked
+pub mod OnWalks

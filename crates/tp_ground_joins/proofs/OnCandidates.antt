@@ -14,8 +14,8 @@ use Rattle.std.specs.List.{AllByRecursion}
 use Rattle.std.proofs.lemmas.List.{length-map}
 use Rattle.tp_syntax_ast.specs.Symbols.{typed_view}
 use Rattle.tp_syntax_ast.specs.declared.symbols.Typed.{Typed}
-use Rattle.tp_ground_walk.specs.Walks.{IsIn, IsAllowed}
-use Rattle.tp_ground_walk.specs.declared.rows.Level.{Level}
+use Rattle.tp_ground_joins.specs.Walks.{IsIn, IsAllowed}
+use Rattle.tp_ground_joins.specs.declared.rows.Level.{Level}
 use Rattle.tp_ground_joins.specs.declared.levels.Static.{Static}
 use Rattle.tp_ground_joins.specs.Candidates.{HasAllOf}
 use Rattle.tp_ground_joins.specs.Levels.{may_be, Picks, Holds, AreStatic}

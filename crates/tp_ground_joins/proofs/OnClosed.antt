@@ -15,12 +15,12 @@ use Rattle.tp_task.specs.declared.events.Body.TheVariants.{Instant, Durative}
 use Rattle.tp_task.specs.Reach as numbers
 use Rattle.tp_task.specs.Tables.{Tables, words_at}
 use Rattle.tp_task.specs.Words.{Words, same_words}
-use Rattle.tp_task_reachability.specs.Rounds.{set_of}
+use Rattle.tp_task.specs.Rounds.{set_of}
 use Rattle.tp_ground_bindings.specs.Bindings.{Universe, Env, bound}
 use Rattle.tp_ground.specs.Written.{GroundCondition, GroundBody, instant, durative, condition_in, condition_at, condition_part, conjuncts_at, conditions_from, is_specifier, body_in}
 use Rattle.tp_ground.specs.ReadBack.{named_condition, named_body}
-use Rattle.tp_ground_actions.specs.Initially.{initial_in, is_initially_true, named_initial, true_at}
-use Rattle.tp_ground_actions.proofs.OnFits.{are_words, in_range, parts_ok}
+use Rattle.tp_ground.specs.Initially.{initial_in, is_initially_true, named_initial, true_at}
+use Rattle.tp_ground.proofs.OnFits.{are_words, in_range, parts_ok}
 use Rattle.tp_ground.specs.Reached.{Instance, action_of, met}
 use Rattle.std.proofs.Common.{Vec, Global}
 use Rattle.std.proofs.lemmas.Simd.{map-map}
@@ -28,9 +28,9 @@ use Rattle.tp_syntax_ast.specs.DomainViews.{initial_view}
 use Rattle.tp_syntax_ast.specs.declared.problem.Initial as syntax
 use Rattle.tp_task.specs.Words.{with_all}
 use Rattle.tp_ground.specs.Mentions.{Mentions}
-use Rattle.tp_ground_actions.specs.declared.beginning.NumberedInitial.{NumberedInitial}
-use Rattle.tp_ground_effects.specs.Lowered.{IsLowered}
-use Rattle.tp_ground_effects.proofs.OnLowered.{notes_extend}
+use Rattle.tp_ground.specs.declared.beginning.NumberedInitial.{NumberedInitial}
+use Rattle.tp_ground_bodies.specs.Lowered.{IsLowered}
+use Rattle.tp_ground_bodies.proofs.OnLowered.{notes_extend}
 use Rattle.tp_ground.proofs.OnInitially.{true_there, same_words-Decides, with_all_distinct}
 use Rattle.tp_ground.proofs.OnTasks.{same_extend}
 use Rattle.tp_ground.proofs.OnMet.{worded, all_worded, met_same}

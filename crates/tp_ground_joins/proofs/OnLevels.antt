@@ -18,16 +18,16 @@ use Rattle.tp_task.specs.Words.{same_words}
 use Rattle.tp_task.proofs.OnWords.{same_words_are, same_words_self}
 use Rattle.tp_ground_bindings.specs.Bindings.{bound, object_among, object_for, words_in}
 use Rattle.tp_ground_bindings.proofs.Along.{map_next}
-use Rattle.tp_ground_actions.specs.Initially.{initial_in, is_initially_true}
+use Rattle.tp_ground.specs.Initially.{initial_in, is_initially_true}
 use Rattle.tp_ground_laws.specs.Needed.{needed, is_added}
 use Rattle.tp_ground_laws.specs.WholeTasks.{may_be_added}
-use Rattle.tp_ground_walk.specs.Keys.{key_of}
-use Rattle.tp_ground_walk.specs.Views.{keyed_view}
-use Rattle.tp_ground_walk.specs.Checks.{has_row, allows, all_allow}
-use Rattle.tp_ground_walk.specs.Walks.{IsIn, IsAllowed}
-use Rattle.tp_ground_walk.specs.declared.checks.Check.{Check}
-use Rattle.tp_ground_walk.specs.declared.keyed.Keyed.{Keyed}
-use Rattle.tp_ground_walk.specs.declared.rows.Level.{Level}
+use Rattle.tp_ground_joins.specs.Keys.{key_of}
+use Rattle.tp_ground_joins.specs.Views.{keyed_view}
+use Rattle.tp_ground_joins.specs.Checks.{has_row, allows, all_allow}
+use Rattle.tp_ground_joins.specs.Walks.{IsIn, IsAllowed}
+use Rattle.tp_ground_joins.specs.declared.checks.Check.{Check}
+use Rattle.tp_ground_joins.specs.declared.keyed.Keyed.{Keyed}
+use Rattle.tp_ground_joins.specs.declared.rows.Level.{Level}
 use Rattle.tp_ground_joins.specs.Facts.{keyed_row, fact_of, facts_of}
 use Rattle.tp_ground_joins.specs.Levels.{may_be, arguments_of, rows_of, IsStatic, Holds, AreStatic, place_from, place_of, AreSame, IsFair, AreFair, Picks}
 use Rattle.tp_ground_joins.specs.declared.levels.Static.{Static}

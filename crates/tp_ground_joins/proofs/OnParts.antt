@@ -12,7 +12,7 @@ use Rattle.tp_syntax_ast.specs.declared.problem.Initial.{Initial}
 use Rattle.tp_syntax_ast.specs.declared.problem.Initial.TheVariants as initials
 use Rattle.tp_syntax_ast.specs.declared.term.Atom.{Atom}
 use Rattle.tp_ground_bindings.specs.Bindings.{object_for}
-use Rattle.tp_ground_walk.specs.declared.keyed.Keyed.{Keyed}
+use Rattle.tp_ground_joins.specs.declared.keyed.Keyed.{Keyed}
 use Rattle.tp_ground_joins.specs.Facts.{keyed_row, fact_of}
 use Rattle.tp_syntax_ast.specs.Terms.{Fact, term_view}
 use Rattle.tp_syntax_ast.specs.Conditions.{conditions}
@@ -25,7 +25,7 @@ use Rattle.tp_syntax_ast.specs.EffectViews.{timed_view, timed_condition_view}
 use Rattle.tp_syntax_ast.specs.declared.joined.Joined as joins
 use Rattle.tp_syntax_ast.specs.declared.joined.Joined.{Joined}
 use Rattle.tp_syntax_ast.specs.declared.timed.Timed.{Timed}
-use Rattle.tp_ground_actions.proofs.OnGreat.{cond_And, part_And}
+use Rattle.tp_ground.proofs.OnGreat.{cond_And, part_And}
 use Rattle.tp_ground_laws.specs.Needed.{conjuncts, all_conjuncts, timed_conjuncts, all_timed_conjuncts, some_part, some_of_parts}
 
 each_conjunct : (cs : List Cond) → all_conjuncts (conditions (map cond_view cs)) ≡ flat_map (λ c. conjuncts (cond_view c)) cs

@@ -7,10 +7,10 @@ use Rattle.tp_task.specs.declared.events.Body.TheVariants.{Instant, Durative}
 use Rattle.tp_task.specs.Reach as numbers
 use Rattle.tp_task.specs.Tables.{Tables}
 use Rattle.tp_task.specs.Words.{Words, same_words}
-use Rattle.tp_task_reachability.specs.Rounds.{set_of}
+use Rattle.tp_task.specs.Rounds.{set_of}
 use Rattle.tp_ground_bindings.specs.Bindings.{Universe}
 use Rattle.tp_ground.specs.ReadBack.{named_body}
-use Rattle.tp_ground_actions.specs.Initially.{initial_in, is_initially_true, named_initial}
+use Rattle.tp_ground.specs.Initially.{initial_in, is_initially_true, named_initial}
 use Rattle.tp_ground.specs.Reached.{Instance, action_of}
 use Rattle.tp_ground_laws.specs.WholeTasks.{is_whole, IsWithin}
 use Rattle.tp_ground_joins.specs.declared.numbered.Numbered.{Numbered}

@@ -9,8 +9,8 @@ use Rattle.tp_syntax_ast.specs.Terms.{Fact, atom_view}
 use Rattle.tp_syntax_ast.specs.Problems.{Initial, holds, fails, has_value}
 use Rattle.tp_syntax_ast.specs.declared.term.Atom.{Atom}
 use Rattle.tp_ground_bindings.specs.Bindings.{object_for}
-use Rattle.tp_ground_walk.specs.Views.{keyed_view}
-use Rattle.tp_ground_walk.specs.declared.keyed.Keyed.{Keyed}
+use Rattle.tp_ground_joins.specs.Views.{keyed_view}
+use Rattle.tp_ground_joins.specs.declared.keyed.Keyed.{Keyed}
 
 abbrev pub fact_seen : Bor Atom → Fact
 fact_seen a = atom_view a.now

@@ -9,7 +9,7 @@ use Rattle.tp_task.specs.Bounds.{In}
 use Rattle.tp_task.specs.Words.{Words, has_words}
 use Rattle.tp_task.specs.declared.task.Task.{Task}
 use Rattle.tp_ground_bindings.specs.Bindings.{Universe}
-use Rattle.tp_ground_actions.specs.Initially.{initial_in, is_initially_true}
+use Rattle.tp_ground.specs.Initially.{initial_in, is_initially_true}
 use Rattle.tp_ground.specs.Reached.{Instance, instances, action_of, IsTaskOf}
 use Rattle.tp_ground.specs.Instances.{instance_view}
 use Rattle.tp_ground.specs.declared.instances.Instance as code

@@ -7,13 +7,13 @@ use Rattle.tp_syntax_ast.specs.Terms.{Argument, object, variable, Fact, term_vie
 use Rattle.tp_syntax_ast.specs.Actions.{Action}
 use Rattle.tp_syntax_ast.specs.Problems.{Initial}
 use Rattle.tp_ground_bindings.specs.Bindings.{bound, object_for, words_in}
-use Rattle.tp_ground_actions.specs.Initially.{initial_in, is_initially_true}
+use Rattle.tp_ground.specs.Initially.{initial_in, is_initially_true}
 use Rattle.tp_ground_laws.specs.Needed.{needed, is_added}
 use Rattle.tp_ground_laws.specs.WholeTasks.{may_be_added}
-use Rattle.tp_ground_walk.specs.Keys.{names_at}
-use Rattle.tp_ground_walk.specs.Checks.{allows, all_allow}
-use Rattle.tp_ground_walk.specs.Walks.{IsIn}
-use Rattle.tp_ground_walk.specs.declared.checks.Check.{Check}
+use Rattle.tp_ground_joins.specs.Keys.{names_at}
+use Rattle.tp_ground_joins.specs.Checks.{allows, all_allow}
+use Rattle.tp_ground_joins.specs.Walks.{IsIn}
+use Rattle.tp_ground_joins.specs.declared.checks.Check.{Check}
 use Rattle.tp_ground_joins.specs.Facts.{keyed_row, facts_of}
 use Rattle.tp_ground_joins.specs.declared.levels.Static.{Static}
 

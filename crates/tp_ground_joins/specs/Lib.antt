@@ -1,5 +1,9 @@
-pub mod Facts
-pub mod Levels
 pub mod Candidates
+pub mod Checks
 pub mod Closed
+pub mod Facts
 pub mod Joined
+pub mod Keys
+pub mod Levels
+pub mod Views
+pub mod Walks

@@ -8,15 +8,15 @@ ghost use Rattle.tp_ground_bindings.specs.Bindings.{bindings};
 ghost use Rattle.tp_ground_bindings.specs.Rows.{names_of};
 ghost use Rattle.tp_ground_bindings.specs.Views.{universe_view};
 ghost use Rattle.tp_ground.specs.Instances.{instance_view};
-ghost use Rattle.tp_ground_walk.specs.Walks.{IsAllowed};
+ghost use Rattle.tp_ground_joins.specs.Walks.{IsAllowed};
 ghost use Rattle.tp_ground_joins.specs.Levels.{may_be};
 ghost use Rattle.tp_ground_joins.specs.Candidates.{HasAllOf};
 
 use crate::levels::{levels_from, statics_of};
+use crate::rows::{Level, Rows, WalkFault, find_rows};
 use std::alloc::{AllocError, Global};
 use tp_ground::{GroundFault, Instance, TooManyKind};
 use tp_ground_bindings::{Universe, copied, lists_of};
-use tp_ground_walk::{Level, Rows, WalkFault, find_rows};
 use tp_syntax_ast::{Action, Initial};
 
 /// The most bindings that joins may find.

@@ -2,12 +2,11 @@
 
 ghost use Rattle.std.specs.Prelude.{◌≡◌, true, map, IfOk};
 ghost use Rattle.std.specs.List.{list_all};
-ghost use Rattle.tp_task_reachability.specs.Rounds.{set_of};
+ghost use Rattle.tp_task.specs.Rounds.{set_of};
 ghost use Rattle.tp_ground_joins.specs.Closed.{is_within, is_whole_by, HasFirst};
 
 use std::alloc::{AllocError, Global};
-use tp_task::Body;
-use tp_task_reachability::met;
+use tp_task::{Body, met};
 
 fn is_reached(reach: &[bool], atom: u32) -> bool
     ensures { result ≡ set_of reach.now atom }

@@ -4,11 +4,12 @@ ghost use Rattle.std.specs.Prelude.{◌≡◌, ◌++◌, [], map, IfOk, OnOk};
 ghost use Rattle.tp_syntax_ast.specs.Terms.{term_view};
 ghost use Rattle.tp_syntax_ast.specs.DomainViews.{initial_view};
 ghost use Rattle.tp_ground_bindings.specs.Bindings.{object_for};
-ghost use Rattle.tp_ground_walk.specs.Views.{keyed_view};
+ghost use Rattle.tp_ground_joins.specs.Views.{keyed_view};
 ghost use Rattle.tp_ground_joins.specs.Facts.{keyed_row, fact_of, facts_of};
 
+use crate::keyed::Keyed;
+use crate::keys::with_key;
 use std::alloc::{AllocError, Global};
-use tp_ground_walk::{Keyed, with_key};
 use tp_syntax_ast::{Initial, Term};
 
 // The name of an object.

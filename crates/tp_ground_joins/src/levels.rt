@@ -6,17 +6,20 @@ ghost use Rattle.tp_syntax_ast.specs.Symbols.{typed_view};
 ghost use Rattle.tp_syntax_ast.specs.Terms.{term_view, atom_view};
 ghost use Rattle.tp_syntax_ast.specs.DomainViews.{action_view, initial_view};
 ghost use Rattle.tp_ground_bindings.specs.Rows.{lists_of};
-ghost use Rattle.tp_ground_walk.specs.Checks.{has_row};
-ghost use Rattle.tp_ground_walk.specs.declared.checks.Check as fair;
-ghost use Rattle.tp_ground_walk.specs.Walks.{IsAllowed};
+ghost use Rattle.tp_ground_joins.specs.Checks.{has_row};
+ghost use Rattle.tp_ground_joins.specs.declared.checks.Check as fair;
+ghost use Rattle.tp_ground_joins.specs.Walks.{IsAllowed};
 ghost use Rattle.tp_ground_joins.specs.Facts.{fact_seen, keyed_row};
 ghost use Rattle.tp_ground_joins.specs.Levels.{AreStatic, IsStatic, Holds, place_from, place_of, AreSame, IsFair, AreFair, Picks};
 
+use crate::checks::Check;
 use crate::facts::facts_in;
+use crate::keyed::Keyed;
+use crate::keys::keyed_names;
 use crate::needed::{are_added, needed_of};
+use crate::rows::Level;
 use std::alloc::{AllocError, Global};
 use std::borrow::CowSlice;
-use tp_ground_walk::{Check, Keyed, Level, keyed_names};
 use tp_syntax_ast::{Action, Atom, Initial, Term, Typed};
 
 /// The terms of an atom that no effect adds, and the objects for which it is true at first.

@@ -7,8 +7,8 @@ ghost use Rattle.tp_ground.specs.Instances.{instance_view};
 ghost use Rattle.tp_ground_joins.specs.Closed.{IsNumbered};
 
 use std::alloc::Global;
+use tp_ground::beginning::{NumberedInitial, entries};
 use tp_ground::{GroundFault, Instance, lower_instances};
-use tp_ground_actions::beginning::{NumberedInitial, entries};
 use tp_ground_bindings::Universe;
 use tp_syntax_ast::Initial;
 use tp_task::{Body, Numbering};

@@ -2,8 +2,7 @@
 //! invariant is met too, its end. Where these are too many, some of them.
 
 use std::alloc::{AllocError, Global};
-use tp_task::{Body, Cond};
-use tp_task_reachability::met;
+use tp_task::{Body, Cond, met};
 
 /// How far an action is: whether it can start, whether it can happen whole, and whether it reached
 /// an atom first.

@@ -18,9 +18,9 @@ use Rattle.tp_task.specs.Bounds.{In}
 use Rattle.tp_task.specs.Reach as by_number
 use Rattle.tp_task.proofs.OnWords.{same_words_are, same_words_self}
 use Rattle.tp_task.proofs.Lists.{all_at}
-use Rattle.tp_task_reachability.specs.Rounds.{acts_in, acts_of_bodies}
-use Rattle.tp_task_reachability.specs.TaskReach.{acts_of, first_state, GoalIs}
-use Rattle.tp_task_reachability.proofs.Adding.{met_more}
+use Rattle.tp_task.specs.Rounds.{acts_in, acts_of_bodies}
+use Rattle.tp_task.specs.TaskReach.{acts_of, first_state, GoalIs}
+use Rattle.tp_task.proofs.Adding.{met_more}
 use Rattle.tp_ground.specs.Bindings.{Universe, universe_of}
 use Rattle.tp_ground.specs.Written.{GroundCondition, GroundConditions, atom, compared, negation, all_of, any_of, no_conditions, condition, GroundHappening, GroundBody, condition_in}
 use Rattle.tp_ground.specs.ReadBack.{named_event, named_body}

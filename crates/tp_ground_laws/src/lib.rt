@@ -8,7 +8,7 @@ ghost use Rattle.tp_syntax_ast.specs.Problems.{Problem, SpellsProblem};
 ghost use Rattle.tp_bounds.specs.RunLimits.{RunLimits};
 ghost use Rattle.tp_text.specs.declared.number.Scale.{Scale};
 ghost use Rattle.tp_task.specs.declared.task.Task.{Task};
-ghost use Rattle.tp_task_reachability.specs.TaskReach.{GoalIs};
+ghost use Rattle.tp_task.specs.TaskReach.{GoalIs};
 ghost use Rattle.tp_ground.specs.Grounding.{IsTask};
 ghost use Rattle.tp_ground.specs.Reached.{Instance, IsReachedTask, IsTaskOf};
 ghost use Rattle.tp_ground_laws.specs.SamePlans.{HaveSamePlans, HoldsPlans, PlansAreJudgedAlike, some_of};

@@ -18,14 +18,14 @@ use Rattle.tp_task.specs.declared.fault.GroundFault.TheVariants as faults
 use Rattle.tp_task.specs.declared.fault.TooManyKind.TheVariants as kinds
 use Rattle.tp_task.specs.declared.task.Task.{Task}
 use Rattle.tp_ground_bindings.specs.Bindings.{Universe, universe_of}
-use Rattle.tp_ground_effects.specs.Written.{GroundCondition, GroundBody, condition_in}
-use Rattle.tp_ground_effects.specs.Mentions.{nothing, of_condition, of_each}
-use Rattle.tp_ground_effects.specs.ReadBack.{named_condition, named_body}
-use Rattle.tp_ground_effects.specs.Lowered.{Notes, IsLowered, Overflows}
-use Rattle.tp_ground_effects.proofs.OnLowered.{lowered_both, lowered_same, overflows_first, overflows_then}
-use Rattle.tp_ground_actions.specs.Initially.{GroundInitial, initial_in, of_initial, named_initial}
-use Rattle.tp_ground_actions.specs.Grounding.{ground_actions, mentioned, HasNoTask}
-use Rattle.tp_ground_actions.specs.declared.beginning.NumberedInitial.{NumberedInitial}
+use Rattle.tp_ground_bodies.specs.Written.{GroundCondition, GroundBody, condition_in}
+use Rattle.tp_ground_bodies.specs.Mentions.{nothing, of_condition, of_each}
+use Rattle.tp_ground_bodies.specs.ReadBack.{named_condition, named_body}
+use Rattle.tp_ground_bodies.specs.Lowered.{Notes, IsLowered, Overflows}
+use Rattle.tp_ground_bodies.proofs.OnLowered.{lowered_both, lowered_same, overflows_first, overflows_then}
+use Rattle.tp_ground.specs.Initially.{GroundInitial, initial_in, of_initial, named_initial}
+use Rattle.tp_ground.specs.Grounding.{ground_actions, mentioned, HasNoTask}
+use Rattle.tp_ground.specs.declared.beginning.NumberedInitial.{NumberedInitial}
 use Rattle.tp_ground.specs.Instances.{written_with}
 use Rattle.tp_ground.specs.Reached.{Instance, IsTaskOf, action_of, of_instance, mentioned_of}
 use Rattle.tp_ground.specs.WrittenTasks.{named_task, IsMade}

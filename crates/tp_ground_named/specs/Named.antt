@@ -12,12 +12,12 @@ use Rattle.tp_task.specs.declared.fault.GroundFault.TheVariants as faults
 use Rattle.tp_task.specs.declared.fault.TooManyKind.TheVariants as kinds
 use Rattle.tp_ground_bindings.specs.Bindings.{Universe, universe_of}
 use Rattle.tp_ground_bindings.specs.Views.{universe_view}
-use Rattle.tp_ground_effects.specs.Written.{GroundCondition, condition_in}
-use Rattle.tp_ground_effects.specs.Mentions.{Mentions, ◌then◌, of_condition, of_each}
-use Rattle.tp_ground_effects.specs.ReadBack.{named_condition}
-use Rattle.tp_ground_effects.specs.Lowered.{IsLowered}
-use Rattle.tp_ground_actions.specs.Great.{has_great_number}
-use Rattle.tp_ground_actions.specs.Initially.{GroundInitial, initial_in, of_initial, named_initial}
+use Rattle.tp_ground_bodies.specs.Written.{GroundCondition, condition_in}
+use Rattle.tp_ground_bodies.specs.Mentions.{Mentions, ◌then◌, of_condition, of_each}
+use Rattle.tp_ground_bodies.specs.ReadBack.{named_condition}
+use Rattle.tp_ground_bodies.specs.Lowered.{IsLowered}
+use Rattle.tp_ground.specs.Great.{has_great_number}
+use Rattle.tp_ground.specs.Initially.{GroundInitial, initial_in, of_initial, named_initial}
 use Rattle.tp_ground.specs.Reached.{Instance, instances, mentioned_of}
 use Rattle.tp_ground_named.specs.declared.named.Begun.{Begun}
 use Rattle.tp_ground_named.specs.declared.named.Ends.{Ends}

@@ -5,8 +5,7 @@ use std::alloc::{AllocError, Global};
 use tp_guided_costs::Heuristic;
 use tp_guided_relaxed::{Relaxed, build};
 use tp_search_compiled::{State, Task, Watched, small};
-use tp_task::Body;
-use tp_task_reachability::{met, reach};
+use tp_task::{Body, met, reach};
 
 /// A task, its relaxed task, the actions that wait for atoms, and the ticks that each action lasts
 /// at least.

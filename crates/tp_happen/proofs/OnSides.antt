@@ -5,7 +5,7 @@ use Rattle.tp_task.specs.declared.events.GroundEvent.{GroundEvent}
 use Rattle.tp_task.specs.Event.{has, meets, disturbs}
 use Rattle.tp_happen.specs.declared.meetings.Meeting.{Meeting}
 use Rattle.tp_happen.specs.Meetings.{done, met}
-use Rattle.tp_bitset.specs.Sets.{has_number}
+use Rattle.tp_happen.specs.Sets.{has_number}
 use Rattle.tp_happen.specs.declared.sides.Side.{Side}
 use Rattle.tp_happen.specs.declared.sides.Sides.{Sides}
 use Rattle.tp_happen.specs.Sides.{IsSide, AreSides, meets_by, disturbs_by}

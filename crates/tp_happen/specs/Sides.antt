@@ -6,7 +6,7 @@ use Rattle.tp_task.specs.Event.{has}
 use Rattle.tp_happen.specs.declared.meetings.Meeting.{Meeting}
 use Rattle.tp_happen.specs.declared.meetings.Meeting.TheVariants.{ChangedAndAsked, AddedAndDeleted, WrittenAndRead, SetAndWritten}
 use Rattle.tp_happen.specs.Meetings.{done, met}
-use Rattle.tp_bitset.specs.Sets.{has_number}
+use Rattle.tp_happen.specs.Sets.{has_number}
 use Rattle.tp_happen.specs.declared.sides.Side.{Side}
 use Rattle.tp_happen.specs.declared.sides.Sides.{Sides}
 

@@ -1,5 +1,6 @@
 //! Happenings of a ground task: what events do to a state when they happen at once.
 //!
+//! - `sets`: sets of numbers, a bit for each number up to the greatest
 //! - `states`: a state, as the truth of atoms and the numbers of fluents
 //! - `values`: what an expression is worth in a state
 //! - `conditions`: whether a condition holds
@@ -25,6 +26,7 @@ mod lending;
 mod meetings;
 mod mentions;
 mod pairs;
+mod sets;
 mod sides;
 mod states;
 mod values;
@@ -39,6 +41,7 @@ pub use interfere::{interferes, uses_duration};
 pub use lending::event;
 pub use meetings::Meeting;
 pub use mentions::{atoms_of, fluents_of};
+pub use sets::NumberSet;
 pub use states::State;
 pub use tp_plan_text::{
     Plan, PlanFault, Step, forms_are_written, plans_are_read, print_plan, read_plan,

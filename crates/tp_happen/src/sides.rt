@@ -5,8 +5,8 @@ ghost use Rattle.tp_happen.specs.Sides.{IsSide, AreSides, meets_by, disturbs_by}
 
 use crate::Meeting;
 use crate::meetings::{done, met};
+use crate::sets::NumberSet;
 use std::alloc::{AllocError, Global};
-use tp_bitset::NumberSet;
 use tp_task::GroundEvent;
 
 /// In one of these ways: what the event does as the first of the two, and what it does as the

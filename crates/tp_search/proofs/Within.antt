@@ -8,7 +8,7 @@ use Rattle.tp_happen.specs.tp_plan_text.declared.plans.Step.{Step}
 use Rattle.tp_happen.specs.tp_plan_text.Steps.{IsPlan, ends_in_time}
 use Rattle.tp_validate.specs.OfTask.{IsOfTask, IsValidPlan, is_step_of}
 use Rattle.tp_validate.specs.Validated.{Validated}
-use Rattle.tp_search_instant.specs.Plans.{EndsBy, ends_by, is_step_within, is_plan_within}
+use Rattle.tp_search.specs.Plans.{EndsBy, ends_by, is_step_within, is_plan_within}
 
 each : (p q : Step → Bool) → ((s : Step) → p s ≡ true → q s ≡ true) → (steps : List Step) → list_all p steps ≡ true → list_all q steps ≡ true
 each p q h [] e = refl

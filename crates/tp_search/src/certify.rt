@@ -5,7 +5,7 @@ ghost use Rattle.std.specs.List.{list_all};
 ghost use Rattle.tp_happen.specs.tp_plan_text.Steps.{IsPlan, ends_in_time};
 ghost use Rattle.tp_happen.specs.tp_plan_text.TaskWords.{is_durative};
 ghost use Rattle.tp_validate.specs.OfTask.{IsOfTask, IsValidPlan, is_step_of};
-ghost use Rattle.tp_search_instant.specs.Plans.{ends_by, is_step_within, EndsBy, is_plan_within};
+ghost use Rattle.tp_search.specs.Plans.{ends_by, is_step_within, EndsBy, is_plan_within};
 
 use std::alloc::Global;
 use tp_happen::{Plan, Step};

@@ -3,19 +3,19 @@
 ghost use Rattle.std.specs.Prelude.{◌≡◌, ◌≤◌, [], true, false, IfOk, IfSome};
 ghost use Rattle.tp_task.specs.Reach as spec;
 ghost use Rattle.tp_validate.specs.OfTask.{IsValidPlan};
-ghost use Rattle.tp_task_reachability.specs.TaskReach.{GoalIs};
-ghost use Rattle.tp_search_instant.specs.Plans.{EndsBy};
-ghost use Rattle.tp_search_instant.specs.Answers.{IsAnswer};
+ghost use Rattle.tp_task.specs.TaskReach.{GoalIs};
+ghost use Rattle.tp_search.specs.Plans.{EndsBy};
+ghost use Rattle.tp_search.specs.Answers.{IsAnswer};
 
+use crate::at_once::{judge, plan_at_once};
 use crate::certify::certified;
+use crate::found::Found;
 use crate::progress::tell;
 use std::alloc::{AllocError, Global};
 use std::io::{Write, sink};
 use tp_happen::Step;
 use tp_search_frontier::{Chosen, Frontier, SearchFault};
-use tp_search_instant::{Found, judge, plan_at_once};
-use tp_task::Task;
-use tp_task_reachability::{met, reach};
+use tp_task::{Task, met, reach};
 use tp_validate::ValidPlan;
 
 fn step_of(chosen: &Chosen) -> Step {

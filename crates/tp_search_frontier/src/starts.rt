@@ -219,7 +219,7 @@ pub fn startable(
             tp_task::Body::Instant(only) => only,
             tp_task::Body::Durative(start, _, _) => start,
         };
-        flags.push(tp_task_reachability::met(reach, true, &start.condition))?;
+        flags.push(tp_task::met(reach, true, &start.condition))?;
     }
     Ok(flags)
 }

@@ -2,8 +2,8 @@
 //! unmet goal conjuncts.
 
 ghost use Rattle.std.specs.Prelude.{◌≡◌, true, false, IfOk, IfSome};
-ghost use Rattle.tp_task_reachability.specs.TaskReach.{GoalIs};
-ghost use Rattle.tp_search.specs.tp_search_instant.Answers.{IsAnswer};
+ghost use Rattle.tp_task.specs.TaskReach.{GoalIs};
+ghost use Rattle.tp_search.specs.tp_search.Answers.{IsAnswer};
 ghost use Rattle.tp_solve.specs.Sought.{IsSought};
 
 use crate::board::tell;
@@ -12,10 +12,8 @@ use crate::seeking::{Aim, Outcome, bettered, sought};
 use std::alloc::Global;
 use std::io::{Write, sink};
 use tp_guided::Guided;
-use tp_search::{Found, SearchFault, certified, search, unreachable_has_no_plan};
-use tp_search_instant::judge;
-use tp_task::Task;
-use tp_task_reachability::goal_in_reach;
+use tp_search::{Found, SearchFault, certified, judge, search, unreachable_has_no_plan};
+use tp_task::{Task, goal_in_reach};
 use tp_validate::ValidPlan;
 
 /// What is wished for beside a plan: better ones, until the budget is spent; and that the makespan

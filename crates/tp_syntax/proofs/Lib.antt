@@ -1,3 +1,10 @@
-pub mod OnReadings
+pub mod OnActions
+pub mod OnAtoms
+pub mod OnClashes
 pub mod OnDomains
+pub mod OnFields
+pub mod OnKeyed
+pub mod OnProblemSections
 pub mod OnProblems
+pub mod OnReadings
+pub mod OnSections

@@ -7,7 +7,7 @@ use Rattle.tp_syntax_ast.specs.Lists.{first_of}
 use Rattle.tp_syntax_ast.specs.Words.{is_word}
 use Rattle.tp_syntax_ast.specs.Terms.{shapes}
 use Rattle.tp_syntax_ast.specs.Actions.{action_of}
-use Rattle.tp_syntax_sections.specs.KeyedParts.{SectionItem}
+use Rattle.tp_syntax.specs.KeyedParts.{SectionItem}
 use Rattle.tp_syntax_ast.specs.declared.fault.SyntaxFault.{SyntaxFault}
 use Rattle.tp_syntax_ast.proofs.OnFaults.{fails_from}
 use Rattle.tp_syntax_ast.proofs.OnGives.{bind_bind}
@@ -17,7 +17,7 @@ use Rattle.tp_syntax_ast.specs.TypedLists.{has_twice}
 use Rattle.tp_syntax_ast.specs.Actions.{Action}
 use Rattle.tp_syntax_ast.specs.Domains.{Domain, SectionBody, requirements_in, types_in, objects_in, section, action_at, actions_in, sections_of, each_once, named, defined, domain_with, domain_of}
 use Rattle.tp_syntax_scope.specs.SignatureViews.{predicates_in, functions_in}
-use Rattle.tp_syntax_sections.specs.SectionViews.{section_body_view, action_kind, actions_once, checked_sections, domain_symbols}
+use Rattle.tp_syntax.specs.SectionViews.{section_body_view, action_kind, actions_once, checked_sections, domain_symbols}
 use Rattle.tp_syntax_ast.specs.declared.words.Section.{Section}
 use Rattle.tp_syntax_ast.specs.declared.words.Section.TheVariants as sections
 

@@ -10,7 +10,7 @@ ghost use Rattle.tp_syntax_ast.specs.CondViews.{cond_view};
 ghost use Rattle.tp_syntax_ast.specs.ConstraintViews.{constraint_view};
 ghost use Rattle.tp_syntax_ast.specs.EffectViews.{effect_view, timed_condition_view, timed_effect_view};
 ghost use Rattle.tp_syntax_ast.specs.DomainViews.{body_view, action_view};
-ghost use Rattle.tp_syntax_sections.specs.Fields.{field_view, duration_field};
+ghost use Rattle.tp_syntax.specs.Fields.{field_view, duration_field};
 ghost use Rattle.tp_syntax_ast.specs.Terms.{shapes};
 ghost use Rattle.tp_syntax_ast.specs.Symbols.{typed_view};
 ghost use Rattle.tp_syntax_types.specs.TypeViews.{types_view};
@@ -19,15 +19,16 @@ ghost use Rattle.tp_syntax_scope.specs.ScopeViews.{scope_view, symbols_of};
 ghost use Rattle.tp_syntax_ast.specs.Gives.{Gives};
 ghost use Rattle.tp_syntax_ast.specs.declared.words.Key.TheVariants as keys;
 
+use crate::fields::{Field, find_field, read_fields};
 use std::alloc::Global;
 use tp_syntax_ast::{
     Action, Body, Cond, DurationRule, Effect, Joined, Key, SyntaxFault, TimedCond, TimedEffect,
     TypedList,
 };
-use tp_syntax_conditions::{read_cond, read_constraint};
-use tp_syntax_effects::{read_effect, read_timed_cond, read_timed_effect};
+use tp_syntax_bodies::{
+    read_cond, read_constraint, read_effect, read_timed_cond, read_timed_effect,
+};
 use tp_syntax_scope::{Scope, Symbols, Variables, name_of, parameters_at};
-use tp_syntax_sections::fields::{Field, find_field, read_fields};
 use tp_syntax_types::types::Types;
 use tp_text::Tree;
 

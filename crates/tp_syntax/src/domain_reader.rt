@@ -7,7 +7,7 @@ ghost use Rattle.tp_syntax.specs.Limits.{NestsUpTo};
 ghost use Rattle.tp_syntax_ast.specs.Domains.{requirements_in, types_in, objects_in, section, action_at, actions_in, domain_with, domain_of, SpellsDomain};
 ghost use Rattle.tp_syntax_ast.specs.DomainViews.{action_view, domain_view};
 ghost use Rattle.tp_syntax_scope.specs.SignatureViews.{predicates_in, functions_in};
-ghost use Rattle.tp_syntax_sections.specs.SectionViews.{section_body_view, Adds, action_kind, actions_once, domain_symbols};
+ghost use Rattle.tp_syntax.specs.SectionViews.{section_body_view, Adds, action_kind, actions_once, domain_symbols};
 ghost use Rattle.tp_syntax.specs.Refusals.{IsRefusedDomain};
 ghost use Rattle.tp_syntax_scope.specs.SymbolViews.{symbols_view};
 ghost use Rattle.tp_syntax_types.specs.TypeViews.{types_view};
@@ -17,7 +17,9 @@ ghost use Rattle.tp_syntax_ast.specs.Gives.{Gives};
 ghost use Rattle.tp_syntax_ast.specs.declared.words.Section.TheVariants as sections;
 
 use crate::action_reader::read_action;
+use crate::keyed::SectionItem;
 use crate::known::with_signatures;
+use crate::sections::{find_section, read_sections};
 use std::alloc::Global;
 use tp_syntax_ast::{
     Action, Domain, Section, Signature, SyntaxFault, TypeList, Typed, text_fault, tree_fault,
@@ -26,8 +28,6 @@ use tp_syntax_scope::{
     Symbols, defined, functions_in, named, objects_in, place, predicates_in, requirements_in,
     types_in,
 };
-use tp_syntax_sections::keyed::SectionItem;
-use tp_syntax_sections::sections::{find_section, read_sections};
 use tp_syntax_types::lookup::Lookup;
 use tp_syntax_types::table::second_named;
 use tp_syntax_types::types::Types;

@@ -12,8 +12,7 @@ ghost use Rattle.tp_syntax_ast.specs.Gives.{Gives, IsKept};
 
 use std::alloc::Global;
 use tp_syntax_ast::{Atom, Initial, LeftOutPart, SyntaxFault, is_word};
-use tp_syntax_conditions::{begins_number, number_fault, outside_conditions};
-use tp_syntax_effects::atom_at;
+use tp_syntax_bodies::{atom_at, begins_number, number_fault, outside_conditions};
 use tp_syntax_scope::{Kind, Scope, Symbols, atom_in, both, only};
 use tp_text::{Token, Tree, read_whole};
 

@@ -4,7 +4,7 @@ ghost use Rattle.std.specs.Prelude.{◌≡◌, ◌++◌, map, IfOk};
 ghost use Rattle.tp_syntax_ast.specs.Symbols.{typed_view, signature_view};
 ghost use Rattle.tp_syntax_types.specs.TypeViews.{types_view};
 ghost use Rattle.tp_syntax_scope.specs.SymbolViews.{symbols_view};
-ghost use Rattle.tp_syntax_sections.specs.SectionViews.{domain_symbols};
+ghost use Rattle.tp_syntax.specs.SectionViews.{domain_symbols};
 
 use std::alloc::{AllocError, Global};
 use tp_syntax_ast::{Signature, Typed};

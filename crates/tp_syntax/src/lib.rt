@@ -1,5 +1,9 @@
 //! Domains and problems of planning texts.
 //!
+//! - `keyed`: items that begin with a word of their kind, in any order
+//! - `sections`, `problem_sections`: the sections of a domain and of a problem
+//! - `fields`: the fields of an action, each at most once
+//! - `clash`: the first entry of `:init` that clashes with one before it
 //! - `action_reader`: actions
 //! - `known`: what actions and a problem may name
 //! - `domain_reader`: domains
@@ -8,10 +12,15 @@
 #![tactic(auto)]
 
 mod action_reader;
+mod clash;
 mod domain_reader;
+mod fields;
 mod initial;
+mod keyed;
 mod known;
 mod problem;
+mod problem_sections;
+mod sections;
 
 pub use domain_reader::read_domain;
 pub use problem::read_problem;

@@ -13,25 +13,25 @@ ghost use Rattle.tp_syntax_types.specs.TypeViews.{types_view};
 ghost use Rattle.tp_syntax_ast.specs.Problems.{initial_of, section, goal_in, new_objects, stated, symbols_with, problem_with, own_name, problem_of, SpellsProblem, IsRefusedProblem};
 ghost use Rattle.tp_syntax_ast.specs.CondViews.{cond_view};
 ghost use Rattle.tp_syntax_ast.specs.DomainViews.{initial_view, domain_view, problem_view};
-ghost use Rattle.tp_syntax_sections.specs.ProblemViews.{section_body_view};
+ghost use Rattle.tp_syntax.specs.ProblemViews.{section_body_view};
 ghost use Rattle.tp_syntax_ast.specs.Gives.{Gives};
 ghost use Rattle.tp_syntax_ast.specs.declared.words.ProblemSection.TheVariants as sections;
 
+use crate::clash::first_clash;
 use crate::initial::initial_of;
+use crate::keyed::SectionItem;
 use crate::known::with_signatures;
+use crate::problem_sections::{find_section, once_each};
 use std::alloc::{AllocError, Global};
 use tp_syntax_ast::{
     Atom, Cond, Domain, Initial, Problem, ProblemSection, SyntaxFault, Typed, text_fault,
     tree_fault,
 };
-use tp_syntax_conditions::read_cond;
+use tp_syntax_bodies::read_cond;
 use tp_syntax_scope::{
     Scope, Symbols, defined, first_of, item_place, name_place, named, objects_in, only, place,
     requirements_in,
 };
-use tp_syntax_sections::clash::first_clash;
-use tp_syntax_sections::keyed::SectionItem;
-use tp_syntax_sections::problem_sections::{find_section, once_each};
 use tp_syntax_types::lookup::Lookup;
 use tp_syntax_types::once::second_mention;
 use tp_syntax_types::types::Types;

@@ -3,8 +3,8 @@ use Rattle.std.proofs.Common.{◌≡◌, ℕ, Bool, ◌||◌, List, [], ◌∷�
 use Rattle.std.specs.List.{list_any}
 use Rattle.tp_task.specs.declared.events.Body.{Body}
 use Rattle.tp_task.specs.Event.{has}
-use Rattle.tp_bitset.specs.declared.sets.NumberSet.{NumberSet}
-use Rattle.tp_bitset.specs.Sets.{has_number}
+use Rattle.tp_happen.specs.declared.sets.NumberSet.{NumberSet}
+use Rattle.tp_happen.specs.Sets.{has_number}
 use Rattle.tp_validate.specs.Touched.{invariant_atoms, invariant_fluents, MentionsFit, mentions_any}
 
 any_same : (p q : ℕ → Bool) → ((x : ℕ) → p x ≡ q x) → (xs : List ℕ) → list_any p xs ≡ list_any q xs

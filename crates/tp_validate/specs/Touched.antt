@@ -7,8 +7,8 @@ use Rattle.tp_task.specs.State.{State, holds, atoms_in, fluents_in}
 use Rattle.tp_task.specs.Event.{has, meets}
 use Rattle.tp_task.specs.Valid.{Planned}
 use Rattle.tp_task.specs.Verdict.{is_broken}
-use Rattle.tp_bitset.specs.declared.sets.NumberSet.{NumberSet}
-use Rattle.tp_bitset.specs.Sets.{has_number}
+use Rattle.tp_happen.specs.declared.sets.NumberSet.{NumberSet}
+use Rattle.tp_happen.specs.Sets.{has_number}
 
 -- the atoms and the fluents that a step's invariant mentions
 abbrev pub invariant_atoms : Body → List ℕ

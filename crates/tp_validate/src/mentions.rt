@@ -3,12 +3,11 @@
 ghost use Rattle.std.specs.Prelude.{◌≡◌, ℕ, IfOk};
 ghost use Rattle.tp_task.specs.State.{atoms_in, fluents_in};
 ghost use Rattle.tp_task.specs.Event.{has};
-ghost use Rattle.tp_bitset.specs.Sets.{has_number};
+ghost use Rattle.tp_happen.specs.Sets.{has_number};
 ghost use Rattle.tp_validate.specs.Touched.{invariant_atoms, invariant_fluents};
 
 use std::alloc::{AllocError, Global};
-use tp_bitset::NumberSet;
-use tp_happen::{atoms_of, fluents_of};
+use tp_happen::{NumberSet, atoms_of, fluents_of};
 use tp_task::{Body, Cond};
 
 fn atom_set(alloc: Global, invariant: &Cond) -> Result<NumberSet, AllocError>

@@ -5,14 +5,13 @@ ghost use Rattle.std.specs.List.{list_all, list_any};
 ghost use Rattle.tp_task.specs.Valid.{events, events_of, count_of};
 ghost use Rattle.tp_validate.specs.OfTask.{plan_of, step_of};
 ghost use Rattle.tp_validate.specs.Places.{numbers};
-ghost use Rattle.tp_bitset.specs.Sets.{has_number};
+ghost use Rattle.tp_happen.specs.Sets.{has_number};
 ghost use Rattle.tp_validate.specs.Touched.{mentions_any};
 
 use crate::mentions::{invariant_atoms, invariant_fluents};
 use std::alloc::{AllocError, Global};
 use std::marker::Model;
-use tp_bitset::NumberSet;
-use tp_happen::{Event, EventRef, Step};
+use tp_happen::{Event, EventRef, NumberSet, Step};
 use tp_task::{Body, GroundEvent, Task};
 
 /// A step of a plan with what its action does.

@@ -1,4 +1,4 @@
-use Rattle.tp_agents_laws.specs.PartRuns.{IsPartReport}
+use Rattle.tp_exec_laws.specs.PartRuns.{IsPartReport}
 use Rattle.tp_exec_tests.proofs.Parts.{each_of_two}
 use Rattle.tp_exec_tests.proofs.joined.both.Goals as goal
 

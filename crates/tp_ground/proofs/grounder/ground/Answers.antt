@@ -1,5 +1,5 @@
 use Rattle.tp_syntax_ast.specs.DomainViews.{domain_view, problem_view}
-use Rattle.tp_ground_actions.specs.Grounding.{HasNoTask}
+use Rattle.tp_ground.specs.Grounding.{HasNoTask}
 use Rattle.tp_ground.proofs.OnTasks.{not_made}
 use Rattle.tp_ground.proofs.grounder.ground.Goals as goal
 

@@ -2,16 +2,16 @@ use Rattle.std.proofs.Common.{List, [], ◌∷◌, ◌++◌, map, refl, sym, ap,
 use Rattle.std.proofs.lemmas.List.{map-append, take_all}
 use Rattle.std.proofs.lemmas.Simd.{map-map}
 use Rattle.tp_ground_bindings.specs.Views.{universe_view}
-use Rattle.tp_ground_effects.specs.Written.{GroundBody}
-use Rattle.tp_ground_effects.specs.Mentions.{of_each}
-use Rattle.tp_ground_effects.specs.ReadBack.{named_body}
+use Rattle.tp_ground_bodies.specs.Written.{GroundBody}
+use Rattle.tp_ground_bodies.specs.Mentions.{of_each}
+use Rattle.tp_ground_bodies.specs.ReadBack.{named_body}
 use Rattle.tp_ground.specs.Reached.{action_of, of_instance}
 use Rattle.tp_ground.specs.Reached as reached
 use Rattle.tp_ground.specs.Instances.{instance_view}
 use Rattle.tp_ground.specs.declared.instances.Instance.{Instance}
 use Rattle.tp_ground_bindings.proofs.Along.{map_next}
-use Rattle.tp_ground_effects.proofs.OnLowered.{lowered_none, lowered_both, lowered_same, failed}
-use Rattle.tp_ground_actions.proofs.OnActions.{every, each_next, each_stopped}
+use Rattle.tp_ground_bodies.proofs.OnLowered.{lowered_none, lowered_both, lowered_same, failed}
+use Rattle.tp_ground.proofs.OnActions.{every, each_next, each_stopped}
 use Rattle.tp_ground.proofs.OnInstances.{each_view}
 use Rattle.tp_ground.proofs.instances.lower_instances.Goals as goal
 

@@ -3,10 +3,10 @@ use Rattle.tp_syntax_ast.specs.Symbols.{Name}
 use Rattle.tp_syntax_ast.specs.DomainViews.{action_view}
 use Rattle.tp_ground_bindings.specs.Bindings.{bound}
 use Rattle.tp_ground_bindings.specs.Views.{universe_view}
-use Rattle.tp_ground_effects.specs.Written.{body_in}
-use Rattle.tp_ground_effects.specs.Mentions.{of_body}
-use Rattle.tp_ground_effects.specs.ReadBack.{named_body}
-use Rattle.tp_ground_effects.specs.Lowered.{Lowers}
+use Rattle.tp_ground_bodies.specs.Written.{body_in}
+use Rattle.tp_ground_bodies.specs.Mentions.{of_body}
+use Rattle.tp_ground_bodies.specs.ReadBack.{named_body}
+use Rattle.tp_ground_bodies.specs.Lowered.{Lowers}
 use Rattle.tp_ground.proofs.instances.lower_one.Goals as goal
 
 pub returns : goal.returns

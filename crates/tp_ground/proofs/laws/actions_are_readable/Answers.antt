@@ -5,7 +5,7 @@ use Rattle.tp_syntax_ast.specs.Symbols.{Name}
 use Rattle.tp_syntax_ast.specs.Actions.{Action}
 use Rattle.tp_task.specs.Words.{Words}
 use Rattle.tp_ground_bindings.specs.Bindings.{Universe, bindings, universe_of}
-use Rattle.tp_ground_actions.specs.Grounding.{ground_action, ground_actions}
+use Rattle.tp_ground.specs.Grounding.{ground_action, ground_actions}
 use Rattle.tp_task.specs.Readable.{AreReadable}
 use Rattle.tp_ground.proofs.OnSpelled.{spelled_names}
 use Rattle.tp_ground.proofs.OnReadable.{labels_readable}

@@ -1,5 +1,5 @@
 use Rattle.std.proofs.Common.{◌≡◌, map, take}
-use Rattle.tp_task_reachability.specs.Rounds.{set_of}
+use Rattle.tp_task.specs.Rounds.{set_of}
 use Rattle.tp_ground.specs.Instances.{has_met}
 use Rattle.tp_ground.proofs.reached.are_met.Given as goal
 

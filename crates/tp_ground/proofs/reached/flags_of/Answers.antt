@@ -2,7 +2,7 @@ use Rattle.std.proofs.Common.{◌≡◌, ℕ, true, map, refl, sym, subst}
 use Rattle.std.specs.List.{list_all}
 use Rattle.std.proofs.lemmas.Result.{IfOk-weaker}
 use Rattle.tp_syntax_ast.specs.DomainViews.{problem_view}
-use Rattle.tp_task_reachability.specs.Rounds.{adds_fit}
+use Rattle.tp_task.specs.Rounds.{adds_fit}
 use Rattle.tp_ground_bindings.specs.Views.{universe_view}
 use Rattle.tp_ground.specs.Instances.{instance_view, AreReached}
 use Rattle.tp_ground.proofs.OnFlags.{adds_there, flags_of}

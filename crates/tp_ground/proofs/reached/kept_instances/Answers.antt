@@ -3,7 +3,7 @@ use Rattle.std.proofs.lemmas.Result.{IfOk-weaker}
 use Rattle.tp_syntax_ast.specs.DomainViews.{action_view, domain_view, problem_view}
 use Rattle.tp_syntax_ast.specs.declared.action.Action.{Action}
 use Rattle.tp_ground_bindings.specs.Views.{universe_view}
-use Rattle.tp_ground_actions.specs.Initially.{initial_in}
+use Rattle.tp_ground.specs.Initially.{initial_in}
 use Rattle.tp_ground.specs.Reached.{Instance, instances}
 use Rattle.tp_ground.specs.Instances.{instance_view, AreFlags}
 use Rattle.tp_ground.specs.declared.instances.Instance as code

@@ -1,11 +1,11 @@
 use Rattle.std.proofs.Common.{map, refl}
 use Rattle.tp_syntax_ast.specs.CondViews.{cond_view}
 use Rattle.tp_ground_bindings.specs.Views.{universe_view}
-use Rattle.tp_ground_effects.specs.Mentions.{of_each}
+use Rattle.tp_ground_bodies.specs.Mentions.{of_each}
 use Rattle.tp_ground.specs.Reached.{action_of, of_instance}
 use Rattle.tp_ground.specs.Instances.{instance_view}
 use Rattle.tp_ground.specs.WrittenTasks.{named_task}
-use Rattle.tp_ground_effects.proofs.OnLowered.{failed}
+use Rattle.tp_ground_bodies.proofs.OnLowered.{failed}
 use Rattle.tp_ground.proofs.OnTasks.{entries_stopped, goal_stopped, actions_stopped, task_lowered}
 use Rattle.tp_ground.proofs.tasks.lower_with.Goals as goal
 

@@ -2,7 +2,7 @@ use Rattle.std.proofs.Common.{ℕ, ◌≤◌, [], map, refl, sym, ap, subst, ◌
 use Rattle.std.proofs.lemmas.List.{length-map}
 use Rattle.tp_syntax_ast.specs.DomainViews.{domain_view, problem_view}
 use Rattle.tp_ground_bindings.specs.Bindings.{Universe}
-use Rattle.tp_ground_effects.specs.Lowered.{IsLowered}
+use Rattle.tp_ground_bodies.specs.Lowered.{IsLowered}
 use Rattle.tp_ground.specs.Instances.{instance_view, of_task_with, written_with}
 use Rattle.tp_ground.specs.WrittenTasks.{named_task}
 use Rattle.tp_task.specs.Tables.{with_actions}

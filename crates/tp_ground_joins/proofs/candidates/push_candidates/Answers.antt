@@ -1,8 +1,8 @@
 use Rattle.std.proofs.Common.{ℕ, List, [], Vec, Bor, Global, map, sym, subst}
 use Rattle.tp_task.specs.Bounds.{In}
 use Rattle.tp_ground_bindings.specs.Rows.{names_of}
-use Rattle.tp_ground_walk.specs.Walks.{IsAllowed}
-use Rattle.tp_ground_walk.specs.declared.rows.Level.{Level}
+use Rattle.tp_ground_joins.specs.Walks.{IsAllowed}
+use Rattle.tp_ground_joins.specs.declared.rows.Level.{Level}
 use Rattle.tp_ground_joins.proofs.candidates.push_candidates.Goals as goal
 
 pub returns : goal.returns

@@ -1,5 +1,5 @@
 use Rattle.std.proofs.Common.{◌≡◌, map, take}
-use Rattle.tp_task_reachability.specs.Rounds.{set_of}
+use Rattle.tp_task.specs.Rounds.{set_of}
 use Rattle.tp_ground_joins.specs.Closed.{is_whole_by}
 use Rattle.tp_ground_joins.proofs.closed.are_whole.Given as goal
 

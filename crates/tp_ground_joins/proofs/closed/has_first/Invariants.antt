@@ -1,5 +1,5 @@
 use Rattle.std.proofs.Common.{◌≡◌, ℕ, ◌<◌, true}
-use Rattle.tp_task_reachability.specs.Rounds.{set_of}
+use Rattle.tp_task.specs.Rounds.{set_of}
 use Rattle.tp_ground_joins.proofs.closed.has_first.Given as goal
 
 abbrev pub invariant-loop-place : goal.invariant-loop-place

@@ -4,7 +4,7 @@ use Rattle.std.specs.Str.{bytes_eq}
 use Rattle.tp_syntax_ast.specs.Terms.{term_view}
 use Rattle.tp_syntax_ast.specs.declared.term.Term.{Term}
 use Rattle.tp_ground_bindings.specs.Bindings.{object_for}
-use Rattle.tp_ground_walk.specs.declared.keyed.Keyed.{Keyed}
+use Rattle.tp_ground_joins.specs.declared.keyed.Keyed.{Keyed}
 use Rattle.std.proofs.Common.{Vec, Global, []}
 use Rattle.tp_ground_joins.specs.Facts.{keyed_row}
 use Rattle.tp_ground_joins.proofs.OnParts.{one_fact}

@@ -2,8 +2,8 @@ use Rattle.std.proofs.Common.{◌≡◌, ◌-◌, List, [], ◌∷◌, ◌++◌,
 use Rattle.std.proofs.lemmas.List.{length-map}
 use Rattle.tp_syntax_ast.specs.Symbols.{typed_view}
 use Rattle.tp_ground_bindings.specs.Rows.{Names, names_in, lists_of}
-use Rattle.tp_ground_walk.specs.Walks.{IsAllowed}
-use Rattle.tp_ground_walk.specs.declared.rows.Level.{Level}
+use Rattle.tp_ground_joins.specs.Walks.{IsAllowed}
+use Rattle.tp_ground_joins.specs.declared.rows.Level.{Level}
 use Rattle.tp_ground_joins.specs.Levels.{Picks}
 use Rattle.std.specs.Borrow.{Bor}
 use Rattle.std.proofs.Common.{ℕ}

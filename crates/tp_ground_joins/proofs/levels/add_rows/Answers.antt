@@ -1,7 +1,7 @@
 use Rattle.std.proofs.Common.{◌≡◌, List, true, map, subst, ◌∙◌}
-use Rattle.tp_ground_walk.specs.Views.{keyed_view}
-use Rattle.tp_ground_walk.specs.Checks.{has_row}
-use Rattle.tp_ground_walk.specs.declared.keyed.Keyed.{Keyed}
+use Rattle.tp_ground_joins.specs.Views.{keyed_view}
+use Rattle.tp_ground_joins.specs.Checks.{has_row}
+use Rattle.tp_ground_joins.specs.declared.keyed.Keyed.{Keyed}
 use Rattle.tp_ground_joins.proofs.OnLevels.{more_rows}
 use Rattle.tp_ground_joins.proofs.levels.add_rows.Goals as goal
 

@@ -1,6 +1,6 @@
 use Rattle.std.proofs.Common.{◌≡◌, true, map, take}
 use Rattle.std.specs.List.{AllByRecursion}
-use Rattle.tp_ground_walk.specs.Checks.{has_row}
+use Rattle.tp_ground_joins.specs.Checks.{has_row}
 use Rattle.tp_ground_joins.specs.Facts.{keyed_row}
 use Rattle.tp_ground_joins.proofs.levels.add_rows.Given as goal
 

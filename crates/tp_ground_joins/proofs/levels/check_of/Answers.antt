@@ -1,8 +1,8 @@
 use Rattle.std.proofs.Common.{◌≡◌, ℕ, List, true, Vec, Global, map, sym, subst, ◌∙◌}
 use Rattle.std.specs.List.{AllByRecursion}
 use Rattle.tp_syntax_ast.specs.Symbols.{typed_view}
-use Rattle.tp_ground_walk.specs.Checks.{has_row}
-use Rattle.tp_ground_walk.specs.declared.keyed.Keyed.{Keyed}
+use Rattle.tp_ground_joins.specs.Checks.{has_row}
+use Rattle.tp_ground_joins.specs.declared.keyed.Keyed.{Keyed}
 use Rattle.tp_ground_joins.specs.Facts.{keyed_row}
 use Rattle.tp_ground_joins.specs.Levels.{AreSame, arguments_of}
 use Rattle.tp_ground_joins.proofs.OnLevels.{fair_of}

@@ -2,8 +2,8 @@ use Rattle.std.proofs.Common.{◌<◌, ℕ, Bool, List, map, sym, ap, subst, ◌
 use Rattle.tp_syntax_ast.specs.DomainViews.{initial_view}
 use Rattle.tp_task.specs.declared.events.Body.{Body}
 use Rattle.tp_ground_bindings.specs.Views.{universe_view}
-use Rattle.tp_ground_actions.specs.Initially.{true_at}
-use Rattle.tp_ground_actions.specs.declared.beginning.NumberedInitial.{NumberedInitial}
+use Rattle.tp_ground.specs.Initially.{true_at}
+use Rattle.tp_ground.specs.declared.beginning.NumberedInitial.{NumberedInitial}
 use Rattle.tp_ground.specs.Instances.{instance_view}
 use Rattle.tp_ground_joins.specs.Closed.{AreMarkedFrom}
 use Rattle.tp_ground_joins.proofs.OnClosed.{marked_from}

@@ -2,7 +2,7 @@ use Rattle.std.proofs.Common.{ℕ, [], ap, subst, ◌∙◌}
 use Rattle.tp_syntax_ast.specs.DomainViews.{domain_view, problem_view}
 use Rattle.tp_ground_bindings.specs.Bindings.{Universe}
 use Rattle.tp_ground_bindings.specs.Views.{universe_view}
-use Rattle.tp_ground_effects.specs.Lowered.{IsLowered}
+use Rattle.tp_ground_bodies.specs.Lowered.{IsLowered}
 use Rattle.tp_ground.proofs.OnTasks.{not_made}
 use Rattle.tp_ground_named.specs.Named.{named_ends, written_ends, of_ends, HasNoTaskOf}
 use Rattle.tp_ground_named.proofs.OnEnds.{no_beginning}

@@ -1,7 +1,7 @@
 use Rattle.std.proofs.Common.{refl}
 use Rattle.tp_syntax_ast.specs.CondViews.{cond_view}
 use Rattle.tp_ground_bindings.specs.Views.{universe_view}
-use Rattle.tp_ground_effects.proofs.OnLowered.{failed}
+use Rattle.tp_ground_bodies.proofs.OnLowered.{failed}
 use Rattle.tp_ground_named.specs.Named.{named_ends}
 use Rattle.tp_ground_named.proofs.OnEnds.{entries_stopped, goal_stopped, ends_lowered}
 use Rattle.tp_ground_named.proofs.named.lower_ends.Goals as goal

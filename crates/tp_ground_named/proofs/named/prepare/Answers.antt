@@ -1,4 +1,4 @@
-use Rattle.tp_ground_effects.proofs.OnLowered.{more_named}
+use Rattle.tp_ground_bodies.proofs.OnLowered.{more_named}
 use Rattle.tp_ground_named.proofs.named.prepare.Goals as goal
 
 pub returns-clause-lowered : goal.returns-clause-lowered

@@ -1,6 +1,6 @@
 use Rattle.std.proofs.Common.{◌≡◌, true, sym, ap, subst, ◌∙◌}
 use Rattle.tp_validate.specs.OfTask.{IsOfTask}
-use Rattle.tp_search_instant.specs.Plans.{is_plan_within}
+use Rattle.tp_search.specs.Plans.{is_plan_within}
 use Rattle.tp_search.proofs.Within.{is_plan, is_of_task, certifies, each_found}
 use Rattle.tp_search.proofs.certify.certified.Goals as goal
 

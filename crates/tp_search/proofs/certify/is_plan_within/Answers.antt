@@ -1,6 +1,6 @@
 use Rattle.std.proofs.Common.{◌&&◌, length, le-leb, sym, ap, ◌∙◌}
 use Rattle.std.specs.List.{list_all}
-use Rattle.tp_search_instant.specs.Plans.{is_step_within}
+use Rattle.tp_search.specs.Plans.{is_step_within}
 use Rattle.tp_search.proofs.certify.is_plan_within.Goals as goal
 
 pub returns-then-steps-le-MOST_STEPS : goal.returns-then-steps-le-MOST_STEPS

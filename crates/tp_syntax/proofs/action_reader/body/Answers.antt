@@ -1,6 +1,6 @@
 use Rattle.std.proofs.Common.{List, Bool, map, ap, sym, true, false, ◌∙◌, ◌++◌, append-nil}
 use Rattle.tp_syntax_ast.specs.Actions.{body_of}
-use Rattle.tp_syntax_sections.specs.Fields.{field_view}
+use Rattle.tp_syntax.specs.Fields.{field_view}
 use Rattle.tp_syntax_ast.specs.Symbols.{Declared, Symbols, typed_view}
 use Rattle.tp_syntax_scope.specs.ScopeViews.{symbols_of}
 use Rattle.tp_syntax_ast.specs.DomainViews.{body_view}

@@ -1,8 +1,8 @@
 use Rattle.std.proofs.Common.{map}
 use Rattle.std.proofs.lemmas.Result.{err_from_is_err_and}
-use Rattle.tp_syntax_sections.specs.Fields.{field_view}
+use Rattle.tp_syntax.specs.Fields.{field_view}
 use Rattle.tp_syntax_scope.specs.ScopeViews.{scope_view, symbols_of}
-use Rattle.tp_syntax_sections.proofs.OnActions.{duration_fails, timed_condition_fails, timed_effect_fails, durative_made}
+use Rattle.tp_syntax.proofs.OnActions.{duration_fails, timed_condition_fails, timed_effect_fails, durative_made}
 use Rattle.tp_syntax.proofs.action_reader.durative.Goals as goal
 
 pub returns-in_err-duration : goal.returns-in_err-duration

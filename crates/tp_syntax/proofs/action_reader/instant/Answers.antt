@@ -1,8 +1,8 @@
 use Rattle.std.proofs.Common.{map}
 use Rattle.std.proofs.lemmas.Result.{err_from_is_err_and}
-use Rattle.tp_syntax_sections.specs.Fields.{field_view}
+use Rattle.tp_syntax.specs.Fields.{field_view}
 use Rattle.tp_syntax_scope.specs.ScopeViews.{scope_view, symbols_of}
-use Rattle.tp_syntax_sections.proofs.OnActions.{instant_condition_fails, instant_effect_fails, instant_made}
+use Rattle.tp_syntax.proofs.OnActions.{instant_condition_fails, instant_effect_fails, instant_made}
 use Rattle.tp_syntax.proofs.action_reader.instant.Goals as goal
 
 pub returns-in_err-precondition : goal.returns-in_err-precondition

@@ -4,14 +4,14 @@ use Rattle.tp_text.specs.Shapes.{Shapes}
 use Rattle.tp_syntax_ast.specs.Gives.{◌>>=◌}
 use Rattle.tp_syntax_ast.specs.Terms.{shapes}
 use Rattle.tp_syntax_ast.specs.Actions.{Field, action_of, body_of}
-use Rattle.tp_syntax_sections.specs.Fields.{field_view, checked_fields}
+use Rattle.tp_syntax.specs.Fields.{field_view, checked_fields}
 use Rattle.tp_syntax_ast.specs.Symbols.{Name, Declared, typed_view, Symbols}
 use Rattle.tp_syntax_scope.specs.SymbolViews.{symbols_view}
 use Rattle.tp_syntax_ast.specs.DomainViews.{body_view}
 use Rattle.tp_syntax_ast.specs.declared.symbols.Typed.{Typed}
 use Rattle.tp_syntax_ast.proofs.OnGives.{fails_same, fails_bind, fails_map}
 use Rattle.tp_syntax_ast.proofs.OnFirsts.{no_trees, a_first_word, a_first_list}
-use Rattle.tp_syntax_sections.proofs.OnActions.{no_action, no_name, by_name, after_name, after_fields, after_parameters, with_body}
+use Rattle.tp_syntax.proofs.OnActions.{no_action, no_name, by_name, after_name, after_fields, after_parameters, with_body}
 use Rattle.tp_syntax.proofs.action_reader.read_action.Goals as goal
 
 pub returns-in_default : goal.returns-in_default

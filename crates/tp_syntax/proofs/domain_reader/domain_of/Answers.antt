@@ -7,7 +7,7 @@ use Rattle.tp_syntax_ast.specs.Symbols.{Name}
 use Rattle.tp_syntax_ast.specs.Terms.{shapes}
 use Rattle.tp_syntax_ast.specs.Domains.{SectionBody, domain_with}
 use Rattle.tp_syntax_ast.specs.DomainViews.{domain_view}
-use Rattle.tp_syntax_sections.specs.SectionViews.{section_body_view}
+use Rattle.tp_syntax.specs.SectionViews.{section_body_view}
 use Rattle.tp_syntax_ast.proofs.OnGives.{fails_same, fails_bind, gives_same}
 use Rattle.tp_syntax.proofs.OnDomains.{by_define, after_define, after_head}
 use Rattle.tp_syntax.proofs.domain_reader.domain_of.Goals as goal

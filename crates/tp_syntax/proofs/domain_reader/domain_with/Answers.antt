@@ -2,7 +2,7 @@ use Rattle.std.proofs.Common.{List, Some, map, option_map, string_bytes, ap, sym
 use Rattle.std.proofs.lemmas.Result.{err_from_is_err_and}
 use Rattle.tp_syntax_ast.specs.Symbols.{Name, Parent, Declared, SignatureView, parent_view, typed_view, signature_view}
 use Rattle.tp_syntax_types.specs.TypeViews.{types_view}
-use Rattle.tp_syntax_sections.specs.SectionViews.{section_body_view}
+use Rattle.tp_syntax.specs.SectionViews.{section_body_view}
 use Rattle.tp_syntax_ast.specs.DomainViews.{action_view}
 use Rattle.tp_syntax_ast.proofs.OnGives.{fails_same, fails_bind, fails_map}
 use Rattle.tp_syntax.proofs.OnDomains.{in_order, at_types, at_constants, at_predicates, at_functions, after_all, after_requirements, after_types, after_constants, after_predicates, after_functions, made, symbols_same}

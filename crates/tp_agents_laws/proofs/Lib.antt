@@ -1,2 +1,0 @@
-pub mod PartReports
-pub mod NetsInForce

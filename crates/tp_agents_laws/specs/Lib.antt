@@ -1,3 +1,0 @@
-pub mod PartRuns
-pub mod NetsInForce
-pub mod JoinedPlans

@@ -1,2 +1,0 @@
-pub mod TestLemmas
-pub mod WordLemmas

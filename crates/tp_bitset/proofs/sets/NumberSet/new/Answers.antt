@@ -1,8 +1,0 @@
-use Rattle.std.proofs.Common.{ap, ◌∙◌}
-use Rattle.tp_bitset.specs.Sets.{has_bit, has_number}
-use Rattle.tp_bitset.proofs.WordLemmas.{has_bit_none}
-use Rattle.tp_bitset.proofs.sets.NumberSet.new.Goals as goal
-
-pub returns : goal.returns
-unfolding has_number
-returns c n = ap (λ words. has_bit words n) c.new.ensures.items ∙ has_bit_none n

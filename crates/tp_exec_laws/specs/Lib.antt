@@ -1,0 +1,4 @@
+pub mod JoinedPlans
+pub mod NetsInForce
+pub mod PartRuns
+pub mod SameNetworks

@@ -1,4 +1,0 @@
-pub mod OnGreat
-pub mod OnFits
-pub mod OnEntries
-pub mod OnActions

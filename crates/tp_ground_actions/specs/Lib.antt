@@ -1,3 +1,0 @@
-pub mod Great
-pub mod Initially
-pub mod Grounding

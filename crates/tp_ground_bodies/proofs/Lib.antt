@@ -1,0 +1,14 @@
+pub mod OnBodies
+pub mod OnConditions
+pub mod OnEvents
+pub mod OnExpressions
+pub mod OnGathered
+pub mod OnInner
+pub mod OnLowered
+pub mod OnPartLists
+pub mod Stopped
+pub use Rattle.tp_ground_bodies.proofs.OnConditions
+pub use Rattle.tp_ground_bodies.proofs.OnExpressions
+pub use Rattle.tp_ground_bodies.proofs.OnInner
+pub use Rattle.tp_ground_bodies.proofs.OnLowered
+pub use Rattle.tp_ground_bodies.proofs.Stopped

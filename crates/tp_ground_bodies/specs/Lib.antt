@@ -1,0 +1,11 @@
+pub mod Changes
+pub mod Gathered
+pub mod Lowered
+pub mod Mentions
+pub mod NumberedEnds
+pub mod ReadBack
+pub mod Written
+pub use Rattle.tp_ground_bodies.specs.Lowered
+pub use Rattle.tp_ground_bodies.specs.Mentions
+pub use Rattle.tp_ground_bodies.specs.ReadBack
+pub use Rattle.tp_ground_bodies.specs.Written

@@ -1,4 +1,0 @@
-pub mod Written
-pub mod Mentions
-pub mod ReadBack
-pub mod Lowered

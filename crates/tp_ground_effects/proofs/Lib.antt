@@ -1,9 +1,0 @@
-pub mod OnGathered
-pub mod OnEvents
-pub mod OnPartLists
-pub mod OnBodies
-pub use Rattle.tp_ground_conditions.proofs.OnLowered
-pub use Rattle.tp_ground_conditions.proofs.OnExpressions
-pub use Rattle.tp_ground_conditions.proofs.OnConditions
-pub use Rattle.tp_ground_conditions.proofs.OnInner
-pub use Rattle.tp_ground_conditions.proofs.Stopped

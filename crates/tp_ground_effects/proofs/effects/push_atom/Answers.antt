@@ -1,6 +1,0 @@
-use Rattle.tp_ground_conditions.proofs.OnLowered.{atom_named}
-use Rattle.tp_ground_effects.proofs.OnGathered.{one_gathered}
-use Rattle.tp_ground_effects.proofs.effects.push_atom.Goals as goal
-
-pub returns : goal.returns
-returns c = one_gathered atom_named _ _ _ _ _ _ _ c.in_ok-push.ensures.items c.in_ok-number.ensures

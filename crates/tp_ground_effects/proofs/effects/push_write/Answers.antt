@@ -1,6 +1,0 @@
-use Rattle.tp_ground_conditions.specs.ReadBack.{named_write}
-use Rattle.tp_ground_effects.proofs.OnGathered.{one_gathered}
-use Rattle.tp_ground_effects.proofs.effects.push_write.Goals as goal
-
-pub returns : goal.returns
-returns c = one_gathered named_write _ _ _ _ _ _ _ c.in_ok-push.ensures.items c.in_ok-write.ensures

@@ -1,6 +1,0 @@
-use Rattle.std.proofs.Common.{◌≡◌, drop}
-use Rattle.tp_ground_walk.specs.Keys.{name_key}
-use Rattle.tp_ground_walk.proofs.keys.name_key.Given as goal
-
-abbrev pub invariant-loop-byte : goal.invariant-loop-byte
-invariant-loop-byte l = name_key l.key (drop l.byte-index l.byte-items) ≡ name_key 0 l.byte-items

@@ -1,4 +1,0 @@
-pub mod Keys
-pub mod Views
-pub mod Checks
-pub mod Walks

@@ -1,0 +1,6 @@
+use Rattle.tp_syntax.proofs.OnKeyed.{gives_made}
+use Rattle.tp_syntax.proofs.OnProblemSections.{made, sections_same}
+use Rattle.tp_syntax.proofs.problem_sections.once_each.Goals as goal
+
+pub returns : goal.returns
+returns c = gives_made made _ _ _ (sections_same _) c.read_parts.ensures

@@ -1,0 +1,2 @@
+pub mod OnConstraints
+pub mod OnEffects

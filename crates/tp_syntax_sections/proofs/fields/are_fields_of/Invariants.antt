@@ -1,6 +1,0 @@
-use Rattle.std.proofs.Common.{◌≡◌, map, drop}
-use Rattle.tp_syntax_sections.specs.Fields.{field_view, are_fields_of}
-use Rattle.tp_syntax_sections.proofs.fields.are_fields_of.Given as goal
-
-abbrev pub invariant-loop-field : goal.invariant-loop-field
-invariant-loop-field l = are_fields_of l.lasts (map field_view (drop l.field-index l.fields)) ≡ are_fields_of l.lasts (map field_view l.fields)

@@ -1,5 +1,0 @@
-use Rattle.tp_syntax_sections.proofs.OnFields.{field_found}
-use Rattle.tp_syntax_sections.proofs.fields.find_field.Goals as goal
-
-pub returns : goal.returns
-returns c = field_found c.args.key c.args.fields.now c.find.result c.find.ensures

@@ -1,6 +1,0 @@
-use Rattle.tp_syntax_sections.proofs.OnKeyed.{gives_made}
-use Rattle.tp_syntax_sections.proofs.OnProblemSections.{made, sections_same}
-use Rattle.tp_syntax_sections.proofs.problem_sections.once_each.Goals as goal
-
-pub returns : goal.returns
-returns c = gives_made made _ _ _ (sections_same _) c.read_parts.ensures

@@ -1,6 +1,0 @@
-use Rattle.tp_syntax_sections.proofs.OnKeyed.{gives_made}
-use Rattle.tp_syntax_sections.proofs.OnSections.{made, sections_same}
-use Rattle.tp_syntax_sections.proofs.sections.read_sections.Goals as goal
-
-pub returns : goal.returns
-returns c = gives_made made _ _ _ (sections_same _) c.read_parts.ensures
