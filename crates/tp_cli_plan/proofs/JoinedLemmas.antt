@@ -15,14 +15,10 @@ use Rattle.tp_task.specs.Words.{Words, has_words}
 use Rattle.tp_task.specs.declared.task.Task.{Task}
 use Rattle.tp_happen.specs.tp_plan_text.PlanPrints.{PlansAreRead}
 use Rattle.tp_validate.specs.Validated.{Validated}
-<<<<<<< HEAD
 use Rattle.tp_search.specs.tp_search.Answers.{IsAnswer}
 use Rattle.tp_search.specs.tp_search.declared.found.Found.{Found}
 use Rattle.tp_search.specs.tp_search.declared.found.Found.TheVariants.{Plan, Unreachable, Exhausted, Spent}
 use Rattle.tp_search.specs.tp_search_frontier.declared.fault.SearchFault.{SearchFault}
-=======
-use Rattle.tp_search.specs.tp_search.declared.found.Found.TheVariants.{Plan}
->>>>>>> origin/main
 use Rattle.tp_solve.specs.Sought.{IsSought}
 use Rattle.tp_solve.specs.declared.solving.Wishes.{Wishes}
 use Rattle.tp_cli_inputs.specs.Named.{AreNamed}
