@@ -6,7 +6,7 @@ that random_searches.py made, and prints those where
 - the reference does not take the plan of `solve` for valid,
 - `plan` finds a plan and `solve` none: `solve` gets four times the budget, so that the search of
   `plan` has at least the whole of it left,
-- one of them says `unreachable` and the other does not,
+- `plan` says `unreachable` and `solve` does not,
 - `solve` says `spent N` with another number than its budget,
 - a second call prints something else, or with `--improve` a plan that ends later."""
 
@@ -49,7 +49,7 @@ def wrong(program, names, scale, horizon, budget):
     kind = "plan" if status == 0 else text.split()[0]
     if run([*program, "solve", *names, *limits, *wide]) != solve:
         return "a second call prints something else", kind
-    if (text == "unreachable\n") != (plan[0] == "unreachable\n") and plan[2] < 2:
+    if plan[0] == "unreachable\n" != text:
         return f"{text!r}, and of `plan` {plan[0]!r}", kind
     if plan[2] == 0 and status != 0:
         return f"{text!r}, and `plan` finds {plan[0]!r}", kind
