@@ -1,158 +1,89 @@
-//! Happenings as rows of a table.
+//! What comes of events at one tick, and what is told of states and events.
 
-ghost use Rattle.std.specs.Prelude.{◌≡◌, true, IfOk, IfSome};
+ghost use Rattle.std.specs.Prelude.{◌≡◌, true, IfOk};
 ghost use Rattle.std.specs.List.{list_all};
-ghost use Rattle.tp_happen.specs.Fault.{OnNext};
-ghost use Rattle.tp_task_tests.specs.OfTask.{IsStateOf, has_event};
+ghost use Rattle.tp_task_tests.specs.OfTask.{has_event};
 
-use std::alloc::Global;
+use std::alloc::{AllocError, Global};
 use std::process::Abort;
 use std::test::Fail;
-use tp_happen::{ApplyFault, Event, EventRef, Outcome, Part, State, Why, apply, event};
-use tp_task::{AtomId, FluentId, Task};
-use tp_testkit_tasks::{World, task_of};
+use tp_happen::{
+    ApplyFault, Event, EventRef, Outcome, Part, State, Why, apply, event, holds, interferes, value,
+};
+use tp_task::{ActionId, AtomId, Expr, FluentId, Task};
+use tp_testkit::TANK;
+use tp_testkit_tasks::{CHARGES, FUSES, SWITCHES, TANKS, World, task_of};
+use tp_text::Scale;
 
-/// An event of an action by its name: its only one, or its start or end with these objects in a
-/// step of so many ticks.
-#[derive(Clone, Copy)]
-pub(crate) enum Named<'a> {
-    Only(&'a str),
-    Start(&'a str, &'a [&'a str], u32),
-    End(&'a str, &'a [&'a str], u32),
-}
+/// An event of an action without objects: its name, which event it is, and the ticks of its step.
+type Named = (&'static str, Part, u32);
 
-/// What a happening comes to: the atoms that are true then, fluents and their values, the first
+/// What a happening comes to: the atoms that are true then, the value of the first fluent, the first
 /// fault, or a number past the limit.
 #[derive(Clone, Copy)]
-pub(crate) enum Then<'a> {
-    Atoms(&'a str),
-    Numbers(&'a [(u32, Option<i64>)]),
+enum Then {
+    Atoms(&'static str),
+    Number(i64),
     Fails(usize, Why),
     Range,
 }
 
-/// Happenings from the initial state on, each in the state after the one before it, and what the
-/// last of them comes to.
-#[derive(Clone, Copy)]
-pub(crate) struct Row<'a>(pub(crate) &'a [&'a [Named<'a>]], pub(crate) Then<'a>);
-
-fn part_event<'t>(
-    task: &'t Task,
-    name: &str,
-    objects: &[&str],
-    part: Part,
-) -> Result<Event<'t>, Fail>
+fn event_of<'t>(task: &'t Task, name: &str, part: Part) -> Result<Event<'t>, Fail>
     ensures { IfOk result (λ e. has_event task.now e ≡ true) }
 {
-    let action = task.action(name, objects).ok_or("no such action")?;
+    let action = task.action(name, &[]).ok_or("no such action")?;
     Ok(event(task, action, part).ok_or("no such event")?)
-}
-
-pub(crate) fn event_of<'t>(task: &'t Task, named: Named<'_>) -> Result<EventRef<'t>, Fail>
-    ensures { IfOk result (λ e. has_event task.now e.event ≡ true) }
-{
-    match named {
-        Named::Only(name) => Ok(EventRef::new(part_event(task, name, &[], Part::Only)?, 0)),
-        Named::Start(name, objects, ticks) => {
-            Ok(EventRef::new(part_event(task, name, objects, Part::Start)?, ticks))
-        }
-        Named::End(name, objects, ticks) => {
-            Ok(EventRef::new(part_event(task, name, objects, Part::End)?, ticks))
-        }
-    }
 }
 
 fn events_of<'t>(
     alloc: Global,
     task: &'t Task,
-    happening: &[Named<'_>],
+    happening: &[Named],
 ) -> Result<Vec<EventRef<'t>>, Fail>
     ensures { IfOk result (λ v. list_all (λ e. has_event task.now e.event) v.items ≡ true) }
 {
     let mut events = Vec::new(alloc);
-    for named in happening {
-        events.push(event_of(task, *named)?)?;
+    for (name, part, ticks) in happening {
+        events.push(EventRef::new(event_of(task, name, *part)?, *ticks))?;
     }
     Ok(events)
 }
 
-/// What a happening comes to.
+/// What a happening comes to in the initial state.
 fn outcome_of(
     alloc: Global,
     task: &Task,
-    state: &State,
-    happening: &[Named<'_>],
-) -> Result<Result<Outcome, ApplyFault>, Fail>
-    requires { IsStateOf task.now state.now }
-    ensures { IfOk result (λ r. IfOk r (λ o. OnNext o (IsStateOf task.now))) }
-{
+    happening: &[Named],
+) -> Result<Result<Outcome, ApplyFault>, Fail> {
+    let state = State::initial(alloc, task)?;
     let events = events_of(alloc, task, happening)?;
-    Ok(apply(alloc, state, &events))
+    Ok(apply(alloc, &state, &events))
 }
 
-fn after(
-    alloc: Global,
-    task: &Task,
-    state: &State,
-    happening: &[Named<'_>],
-) -> Result<Option<State>, Fail>
-    requires { IsStateOf task.now state.now }
-    ensures { IfOk result (λ r. IfSome r (IsStateOf task.now)) }
-{
-    match outcome_of(alloc, task, state, happening)? {
-        Ok(Outcome::Next(next)) => Ok(Some(next)),
-        _ => Ok(None),
-    }
-}
-
-/// The state after some happenings, from the initial one on.
-fn state_after(alloc: Global, task: &Task, happenings: &[&[Named<'_>]]) -> Result<State, Fail>
-    ensures { IfOk result (IsStateOf task.now) }
-{
-    let mut state = State::initial(alloc, task)?;
-    for happening in happenings {
-        state = after(alloc, task, &state, happening)?.ok_or("it can't happen")?;
-    }
-    Ok(state)
-}
-
-fn put_atom(alloc: Global, task: &Task, atom: AtomId, text: &mut String) -> Result<(), Fail> {
-    let one = task.atom_text(atom)?;
-    text.push_str(one.as_str())?;
-    Ok(())
-}
-
-/// Whether these are the atoms that are true, of the first sixteen, as texts one after another.
-pub(crate) fn are_true(
-    alloc: Global,
-    task: &Task,
-    state: &State,
-    wanted: &str,
-) -> Result<bool, Fail> {
+/// The atoms that are true, of the first four, as texts one after another.
+fn truths(alloc: Global, task: &Task, state: &State) -> Result<String, AllocError> {
     let mut text = String::new(alloc);
-    for number in 0..16u32 {
-        let atom = AtomId(number);
-        if state.has(atom) {
-            put_atom(alloc, task, atom, &mut text)?;
+    for number in 0..4u32 {
+        if state.has(AtomId(number)) {
+            text.push_str(task.atom_text(AtomId(number))?.as_str())?;
         }
     }
-    Ok(text.as_str() == wanted)
-}
-
-/// Whether fluents have these values.
-pub(crate) fn are_numbers(state: &State, wanted: &[(u32, Option<i64>)]) -> bool {
-    wanted.iter().all(|(fluent, value)| state.number(FluentId(*fluent)) == *value)
+    Ok(text)
 }
 
 fn is_then(
     alloc: Global,
     task: &Task,
     outcome: &Result<Outcome, ApplyFault>,
-    then: Then<'_>,
+    then: Then,
 ) -> Result<bool, Fail> {
     match (outcome, then) {
-        (Ok(Outcome::Next(state)), Then::Atoms(text)) => are_true(alloc, task, state, text),
-        (Ok(Outcome::Next(state)), Then::Numbers(numbers)) => Ok(are_numbers(state, numbers)),
+        (Ok(Outcome::Next(state)), Then::Atoms(text)) => {
+            Ok(truths(alloc, task, state)?.as_str() == text)
+        }
+        (Ok(Outcome::Next(state)), Then::Number(number)) => {
+            Ok(state.number(FluentId(0)) == Some(number))
+        }
         (Ok(Outcome::Fails(place, why)), Then::Fails(wanted, fault)) => {
             Ok(*place == wanted && *why == fault)
         }
@@ -161,28 +92,125 @@ fn is_then(
     }
 }
 
-fn is_row(alloc: Global, task: &Task, row: &Row<'_>) -> Result<bool, Fail> {
-    let (last, front) = row.0.split_last().ok_or("no happening")?;
-    let state = state_after(alloc, task, front)?;
-    let outcome = outcome_of(alloc, task, &state, last)?;
-    is_then(alloc, task, &outcome, row.1)
+/// A world, events at one tick in its initial state, and what comes of them.
+type Row = (World<'static>, &'static [Named], Then);
+
+// A tank that is as full as a number may be.
+const BRIMS: World<'static> = World {
+    domain: TANK,
+    problem: "(define (problem p) (:domain tank)
+ (:init (= (level) 1000000000000000)) (:goal (>= (level) 3)))",
+    scale: Scale::One,
+    horizon: 100,
+};
+
+const THOUSANDTHS: World<'static> = World {
+    scale: Scale::Thousand,
+    ..CHARGES
+};
+
+const FILL_A: Named = ("fill-a", Part::Only, 0);
+
+const FILL_B: Named = ("fill-b", Part::Only, 0);
+
+const NEED: Named = ("need", Part::Only, 0);
+
+const DROP: Named = ("drop", Part::Only, 0);
+
+const GIVE: Named = ("give", Part::Only, 0);
+
+const ROWS: [Row; 9] = [
+    (TANKS, &[], Then::Number(0)),
+    (TANKS, &[FILL_A, FILL_B], Then::Number(3)),
+    (BRIMS, &[FILL_A], Then::Range),
+    (SWITCHES, &[NEED], Then::Atoms("(p)(done)")),
+    (SWITCHES, &[DROP, GIVE], Then::Atoms("(q)")),
+    (SWITCHES, &[NEED, DROP], Then::Fails(0, Why::Interferes(1))),
+    (CHARGES, &[("charge", Part::End, 4)], Then::Number(8)),
+    (THOUSANDTHS, &[("charge", Part::End, 4000)], Then::Number(8)),
+    (
+        THOUSANDTHS,
+        &[("charge", Part::End, 4500)],
+        Then::Fails(0, Why::Undefined),
+    ),
+];
+
+fn is_row(alloc: Global, row: &Row) -> Result<bool, Fail> {
+    let task = task_of(alloc, row.0)?;
+    let outcome = outcome_of(alloc, &task, row.1)?;
+    is_then(alloc, &task, &outcome, row.2)
 }
 
-fn are_rows_of(rt: &impl Abort, alloc: Global, task: &Task, rows: &[Row<'_>]) -> Result<(), Fail> {
-    for (number, row) in rows.iter().enumerate() {
-        let carried_out = is_row(alloc, task, row)?;
-        assert!(rt; carried_out, "row {number}");
+#[test]
+fn events_at_one_tick(rt: HostRuntime) -> Result<(), Fail> {
+    for (number, row) in ROWS.iter().enumerate() {
+        assert!(rt; is_row(rt.alloc(), row)?, "row {number}");
     }
     Ok(())
 }
 
-/// Each row of a table is carried out so by the task of a world.
-pub(crate) fn are_rows(
-    rt: &impl Abort,
-    alloc: Global,
-    world: World<'_>,
-    rows: &[Row<'_>],
-) -> Result<(), Fail> {
-    let task = task_of(alloc, world)?;
-    are_rows_of(rt, alloc, &task, rows)
+/// The number of an action of toggle, a part, and whether it has that event.
+const LENT: [(u32, Part, bool); 8] = [
+    (0, Part::Only, true),
+    (0, Part::Start, false),
+    (0, Part::End, false),
+    (3, Part::Only, false),
+    (3, Part::Start, true),
+    (3, Part::End, true),
+    (4, Part::Only, false),
+    (4, Part::Start, false),
+];
+
+fn lends(rt: &impl Abort, task: &Task) {
+    for (action, part, lent) in LENT {
+        let found = event(task, ActionId(action), part).is_some();
+        assert!(rt; found == lent, "{action}");
+    }
+}
+
+fn do_interfere(task: &Task, first: &str, second: &str) -> Result<bool, Fail> {
+    let one = event_of(task, first, Part::Only)?;
+    let other = event_of(task, second, Part::Only)?;
+    Ok(interferes(&one, &other))
+}
+
+#[test]
+fn events_of_toggle(rt: HostRuntime) -> Result<(), Fail> {
+    let task = task_of(rt.alloc(), SWITCHES)?;
+    lends(&rt, &task);
+    assert!(rt; do_interfere(&task, "need", "drop")? && do_interfere(&task, "drop", "need")?);
+    assert!(rt; !do_interfere(&task, "drop", "give")?);
+    Ok(())
+}
+
+/// Whether the goal fails at first, expressions have their values, and so has a duration in units.
+fn is_begin(task: &Task, state: &State) -> bool {
+    holds(state, &task.goal) == Ok(false)
+        && value(state, None, &Expr::Number(3)) == Ok(Some(3))
+        && value(state, Some(4), &Expr::Duration) == Ok(Some(4))
+        && value(state, None, &Expr::Duration) == Ok(None)
+        && state.scale() == Scale::Thousand
+        && (state.duration(4000), state.duration(4500)) == (Some(4), None)
+        && (
+            state.has(AtomId(0)),
+            state.has(AtomId(1)),
+            state.has(AtomId(3)),
+        ) == (true, false, false)
+        && state.number(FluentId(0)) == None
+}
+
+fn begins(alloc: Global, task: &Task) -> Result<bool, AllocError> {
+    let state = State::initial(alloc, task)?;
+    Ok(is_begin(task, &state))
+}
+
+#[test]
+fn a_task_begins_as_its_problem_says(rt: HostRuntime) -> Result<(), Fail> {
+    let world = World {
+        scale: Scale::Thousand,
+        ..FUSES
+    };
+    let task = task_of(rt.alloc(), world)?;
+    assert!(rt; begins(rt.alloc(), &task)?);
+    Ok(())
 }
