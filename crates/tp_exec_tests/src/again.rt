@@ -3,19 +3,19 @@
 //! test fail in turn; with ample memory the tests show that each call has an answer.
 //!
 //! - `worlds`: the tasks of the small domains
-//! - `texts`: words, trees, domains and problems
+//! - `texts`: words and trees
 //! - `tasks`: what is told of a task, and happenings
-//! - `plans`: plans that are read, judged, looked for, and freed from their order
-//! - `runs`: executives over the networks of plans
-//! - `plans_of_runs`: the plans of completed runs
+//! - `plans`: plans that are read, judged and looked for
+//! - `plans_of_runs`: networks of plans, and the plans of completed runs
 //! - `networks`: settings, and executives over both networks for all bounds
 //! - `journals`: heads of journals, and audits
+//! - `agents`: owners, splits, parts, and runs of parts that are joined
 
+mod agents;
 mod journals;
 mod networks;
 mod plans;
 mod plans_of_runs;
-mod runs;
 mod tasks;
 mod texts;
 mod worlds;

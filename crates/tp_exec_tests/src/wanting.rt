@@ -1,7 +1,6 @@
 //! Which faults tell of want of memory: a call that answers another is not made once more.
 
 use std::alloc::AllocError;
-use tp_agents::SplitFault;
 use tp_deorder::DeorderFault;
 use tp_exec_machine::{Answer, Refusal};
 use tp_happen::{ApplyFault, PlanFault};
@@ -56,12 +55,6 @@ impl Wanting for PlanFault {
 impl Wanting for SearchFault {
     fn is_memory(&self) -> bool {
         matches!(self, SearchFault::Memory)
-    }
-}
-
-impl Wanting for SplitFault {
-    fn is_memory(&self) -> bool {
-        matches!(self, SplitFault::Memory)
     }
 }
 

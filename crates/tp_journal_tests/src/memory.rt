@@ -1,24 +1,13 @@
-//! Files, readers and writers in memory. All but `Note` tell their bytes.
+//! Readers, writers and files in memory.
 
-ghost use Rattle.std.specs.Prelude.{
-  ◌≡◌,
-  ◌+◌,
-  refl,
-  [],
-  None,
-  Some,
-  find,
-  if◌then◌else◌,
-  option_map,
-};
-ghost use Rattle.std.specs.Str.{bytes_eq};
+ghost use Rattle.std.specs.Prelude.{◌≡◌, ◌+◌, refl, [], Some, option_map};
 ghost use Rattle.std.specs.String.{string_bytes};
 
 use std::alloc::Global;
 use std::io;
 use std::io::{ErrorKind, Read};
-use tp_cli_files::{Files, Logs};
-use tp_device::{Failed, Sink, Source, Tally};
+use tp_cli_files::Logs;
+use tp_device::{Failed, Sink, Tally};
 
 /// Bytes that come at most so many a call. Behind them is the end, or where it is broken an error.
 #[derive(Clone, Copy)]
@@ -38,107 +27,6 @@ impl<'a> Read for Feed<'a> {
         buf[..count].copy_from_slice(first);
         self.bytes = rest;
         Ok(count)
-    }
-}
-
-/// What is left of a file in memory.
-#[derive(Drop)]
-pub struct Stored<'a> {
-    pub bytes: &'a [u8],
-}
-
-impl Source for Stored<'_> {
-    ghost left = { λ s. Some s.bytes.now };
-
-    ghost failures = { λ _. 0 };
-
-    fn pull(&mut self, buffer: &mut [u8]) -> Result<usize, Failed> {
-        Ok(self.bytes.read(buffer).unwrap_or(0))
-    }
-}
-
-/// Files in memory, under their names.
-#[derive(Drop)]
-pub struct Shelf<'a> {
-    files: &'a [(&'a str, &'a [u8])],
-    failures: Tally,
-}
-
-impl<'a> Shelf<'a> {
-    /// These.
-    pub fn new(files: &'a [(&'a str, &'a [u8])]) -> Self {
-        Shelf {
-            files,
-            failures: Tally::new(),
-        }
-    }
-}
-
-impl<'a> Files for Shelf<'a> {
-    type Input = Stored<'a>;
-
-    ghost held = { λ s name. option_map (λ f. f.1.now) (find (λ f. bytes_eq f.0.now name) s.files.now) };
-
-    ghost failures = { λ s. s.failures.count };
-
-    fn open(&mut self, name: &str) -> Result<Stored<'a>, Failed> {
-        match self.files.iter().find(|file| file.0 == name) {
-            Some(file) => Ok(Stored { bytes: file.1 }),
-            None => {
-                self.failures.tick();
-                Err(Failed)
-            }
-        }
-    }
-
-    fn close(&mut self, _input: Stored<'a>) {}
-}
-
-/// A text with room for so many bytes. It fails at the piece that does not fit, and then takes no
-/// more. It does not tell its bytes.
-#[derive(Drop)]
-pub struct Note {
-    text: Vec<u8>,
-    room: usize,
-    failed: bool,
-}
-
-impl Note {
-    /// An empty one.
-    pub fn new(alloc: Global, room: usize) -> Note
-        ensures text { result.text.items ≡ [] }
-        ensures room { result.room ≡ room }
-    {
-        Note {
-            text: Vec::new(alloc),
-            room,
-            failed: false,
-        }
-    }
-
-    /// What was written.
-    pub fn text(&self) -> &[u8]
-        ensures { result.now ≡ self.now.text.items }
-    {
-        self.text.as_slice()
-    }
-}
-
-impl Sink for Note {
-    ghost held = { λ _. None };
-
-    ghost failures = { λ s. if s.failed then 1 else 0 };
-
-    fn push(&mut self, bytes: &[u8]) -> Result<usize, Failed> {
-        if self.failed {
-            return Ok(bytes.len());
-        }
-        if self.room < bytes.len() || self.text.extend_from_slice(bytes).is_err() {
-            self.failed = true;
-            return Err(Failed);
-        }
-        self.room -= bytes.len();
-        Ok(bytes.len())
     }
 }
 

@@ -1,16 +1,22 @@
-//! Tests of networks of events and bounds.
+//! Tests of networks of events and bounds, and of executives over them.
 //!
-//! - `bounds`: settings, schedules, reasons and limits as data
-//! - `net`: the plain networks, by hand and against all assignments
-//! - `repair`: the network that is repaired, by hand and against the plain one
-//! - `trials`: changes that tests ask of a network, and its answers
+//! - `asking`: what a network may be asked, and its windows
+//! - `box_net`: the network of bounds with the origin
+//! - `certificates`: settings, schedules, reasons and limits as data
+//! - `lists`: the same commands to executives over both networks for all bounds
+//! - `looks`: how many edges a repair looks at
+//! - `machine`: limits of an executive, and copies of its setting
 #![tactic(auto)]
 
 #[cfg(test)]
-mod bounds;
+mod asking;
 #[cfg(test)]
-mod net;
+mod box_net;
 #[cfg(test)]
-mod repair;
+mod certificates;
 #[cfg(test)]
-mod trials;
+mod lists;
+#[cfg(test)]
+mod looks;
+#[cfg(test)]
+mod machine;

@@ -2,10 +2,8 @@
 //!
 //! - `kinds`: a domain with a proposition of each kind, and values of its goals
 //! - `plans`: relaxed plans, with and without running steps
-//! - `queues`: the order in which a queue gives its numbers
 //! - `seeking`: plans that the guided search finds, and in how many expansions
 
 mod kinds;
 mod plans;
-mod queues;
 mod seeking;

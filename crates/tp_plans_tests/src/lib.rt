@@ -1,8 +1,6 @@
-//! Tests of what judges plans, frees them from their order and searches for them, on examples
-//! worked by hand.
+//! Tests of what searches for plans, on examples worked by hand.
 //!
-//! - `validate`: verdicts on plans, and the networks of the valid ones
-//! - `search`: the relaxed reach, and plans that best-first search finds
+//! - `search`: the same answers of tasks of all actions and of those in reach
 //! - `guided`: relaxed plans, and plans that the guided search finds
 #![tactic(auto)]
 
@@ -10,5 +8,3 @@
 mod guided;
 #[cfg(test)]
 mod search;
-#[cfg(test)]
-mod validate;

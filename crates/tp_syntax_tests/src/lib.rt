@@ -1,10 +1,10 @@
-//! Tests of texts and of their syntax: what no contract says, and each call once.
+//! Tests of texts and of their syntax.
 //!
-//! - `text`: words, trees and numbers
-//! - `syntax`: domains and problems that are read, printed and refused
+//! - `words`: tokens, whole numbers and times
+//! - `domains`: domains that are read, printed and read again
 #![tactic(auto)]
 
 #[cfg(test)]
-mod syntax;
+mod domains;
 #[cfg(test)]
-mod text;
+mod words;

@@ -1,14 +1,8 @@
--- States and events of a task.
-use Rattle.std.specs.Prelude.{◌≡◌, Bool, length}
+-- Events of a task.
+use Rattle.std.specs.Prelude.{Bool, length}
 use Rattle.tp_task.specs.declared.task.Task.{Task}
 use Rattle.tp_task.specs.Fits.{event_fits}
 use Rattle.tp_task.specs.declared.events.GroundEvent.{GroundEvent}
-use Rattle.tp_happen.specs.Stored.{Stored}
-
--- the state has the task's atoms and fluents
-pub record IsStateOf (t : Task) (s : Stored) : Type 0 where
-  pub atoms : length s.atoms ≡ length t.initial_atoms.items
-  pub numbers : length s.numbers ≡ length t.initial_numbers.items
 
 -- what the event changes is the task's
 abbrev pub has_event : Task → GroundEvent → Bool

@@ -1,10 +1,13 @@
-//! Tests of ground tasks, of happenings and of the texts of plans, on examples worked by hand.
+//! Tests of ground tasks, of happenings and of what is printed, on the small domains.
 //!
-//! - `ground`: tasks of domains and problems, of all actions and of those in reach
-//! - `happen`: happenings, values, plans that are read and printed
+//! - `tasks`: tasks of all actions, of those in reach, and of those that joins leave
+//! - `happenings`: what comes of events at one tick, and what is told of states and events
+//! - `printing`: plans that are printed, and read again
 #![tactic(auto)]
 
 #[cfg(test)]
-mod ground;
+mod happenings;
 #[cfg(test)]
-mod happen;
+mod printing;
+#[cfg(test)]
+mod tasks;

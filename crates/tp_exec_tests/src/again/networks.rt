@@ -1,10 +1,5 @@
 //! Settings, and executives over both networks for all bounds.
 
-ghost use Rattle.std.specs.Prelude.{◌≡◌, true, None};
-ghost use Rattle.std.specs.FinMap as map;
-ghost use Rattle.tp_bounds.specs.Setting.{HasPoint, IsInRange};
-ghost use Rattle.tp_net.specs.NewNet.{new_setting};
-
 use std::alloc::{AllocError, Global};
 use std::test::Fail;
 use tp_bounds::{Bound, BoundId, Broken, Limits, Point, Setting, check_schedule};
@@ -12,32 +7,22 @@ use tp_exec_machine::{Answer, Command, Executive, Refusal, perform};
 use tp_net::{Net, ScratchNet};
 use tp_repair::RepairNet;
 
-/// Puts a bound in force. Where memory is refused, the setting is as before, and it is put once
-/// more.
-fn put_again(setting: &mut Setting, id: BoundId, bound: Bound) -> Result<(), AllocError>
-    requires from { HasPoint setting.old bound.from }
-    requires to { HasPoint setting.old bound.to }
-    requires weight { IsInRange bound.w }
-    requires unused { map.get setting.old.bounds id.0 ≡ None }
-{
-    again!(setting.put(id, bound))
-}
-
-/// Two events, the second at least two ticks after the first.
+/// Two events, the second at least two ticks after the first. Where memory is refused to the bound,
+/// the setting is as before, and it is put once more.
 fn two_apart(alloc: Global) -> Result<Setting, AllocError> {
-    let mut setting = Setting::new(alloc, 2, 10)?;
+    let mut setting = again!(Setting::new(alloc, 2, 10))?;
     let bound = Bound {
         from: Point::Event(1),
         to: Point::Event(0),
         w: -2,
     };
-    put_again(&mut setting, BoundId(0), bound)?;
+    again!(setting.put(BoundId(0), bound))?;
     Ok(setting)
 }
 
 #[test]
 fn a_setting_of_two_events(rt: HostRuntime) -> Result<(), Fail> {
-    let setting = again!(two_apart(rt.alloc()))?;
+    let setting = two_apart(rt.alloc())?;
     assert!(rt; check_schedule(&setting, &[0, 2]) == Ok(()));
     assert!(rt; check_schedule(&setting, &[0, 1]) == Err(Broken::Bound(BoundId(0))));
     Ok(())
@@ -45,7 +30,7 @@ fn a_setting_of_two_events(rt: HostRuntime) -> Result<(), Fail> {
 
 /// What an executive answers. Where memory is refused, nothing has changed, and it is asked once
 /// more.
-pub(crate) fn answer<N: Net>(executive: &mut Executive<N>, command: Command) -> Answer {
+fn answer<N: Net>(executive: &mut Executive<N>, command: Command) -> Answer {
     match perform(executive, command) {
         Answer::Refused(Refusal::Memory) => perform(executive, command),
         answer => answer,
@@ -53,7 +38,7 @@ pub(crate) fn answer<N: Net>(executive: &mut Executive<N>, command: Command) -> 
 }
 
 /// Whether an executive carries out all these commands.
-pub(crate) fn carries_out<N: Net>(executive: &mut Executive<N>, commands: &[Command]) -> bool {
+fn carries_out<N: Net>(executive: &mut Executive<N>, commands: &[Command]) -> bool {
     for command in commands {
         if matches!(answer(executive, *command), Answer::Refused(_)) {
             return false;
@@ -64,22 +49,16 @@ pub(crate) fn carries_out<N: Net>(executive: &mut Executive<N>, commands: &[Comm
 
 /// An executive over a new network of two events up to 100, the first of which may be reported
 /// late.
-fn start<N: Net>(alloc: Global, mut net: N) -> Executive<N>
-    requires between { N.takes_between ≡ true }
-    requires new { N.seen net ≡ new_setting 2 100 }
-{
-    net.set_lag(0, 3);
-    Executive::bare(alloc, Limits::greatest(100), net)
-}
-
 fn plain(alloc: Global) -> Result<Executive<ScratchNet>, AllocError> {
-    let net = ScratchNet::new(alloc, 2, 100)?;
-    Ok(start(alloc, net))
+    let mut net = ScratchNet::new(alloc, 2, 100)?;
+    net.set_lag(0, 3);
+    Ok(Executive::bare(alloc, Limits::greatest(100), net))
 }
 
 fn repaired(alloc: Global) -> Result<Executive<RepairNet>, AllocError> {
-    let net = RepairNet::new(alloc, 2, 100)?;
-    Ok(start(alloc, net))
+    let mut net = RepairNet::new(alloc, 2, 100)?;
+    net.set_lag(0, 3);
+    Ok(Executive::bare(alloc, Limits::greatest(100), net))
 }
 
 const FIRST: [Command; 5] = [
@@ -118,11 +97,33 @@ fn waits<N: Net>(executive: &mut Executive<N>) -> bool {
         && carries_out(executive, &LAST)
 }
 
+/// Whether a report tells that all is done, at these moments.
+fn reports<N: Net>(executive: &mut Executive<N>, moments: &[(u32, bool)]) -> bool {
+    match answer(executive, Command::Report) {
+        Answer::Reported(report) => report.done && report.moments.as_slice() == moments,
+        _ => false,
+    }
+}
+
+/// Whether these moments are a schedule of the setting that is copied.
+fn keeps<N: Net>(executive: &Executive<N>, moments: &[u32]) -> Result<bool, AllocError> {
+    let setting = executive.setting()?;
+    Ok(check_schedule(&setting, moments) == Ok(()))
+}
+
+/// Whether it does, and is done then with the first event at 3 and the second at 10.
+fn is_done<N: Net>(executive: &mut Executive<N>) -> Result<bool, AllocError> {
+    if !waits(executive) || !reports(executive, &[(3, true), (10, true)]) {
+        return Ok(false);
+    }
+    again!(keeps(executive, &[3, 10]))
+}
+
 #[test]
 fn now_waits_for_a_bound_to_be_withdrawn(rt: HostRuntime) -> Result<(), Fail> {
     let mut first = again!(plain(rt.alloc()))?;
-    assert!(rt; waits(&mut first));
+    assert!(rt; is_done(&mut first)?);
     let mut second = again!(repaired(rt.alloc()))?;
-    assert!(rt; waits(&mut second));
+    assert!(rt; is_done(&mut second)?);
     Ok(())
 }

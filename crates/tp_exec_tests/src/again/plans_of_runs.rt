@@ -1,4 +1,4 @@
-//! The plans of completed runs.
+//! Networks of plans, and the plans of completed runs.
 
 ghost use Rattle.std.specs.Prelude.{IfOk, OnOk, IfSome};
 ghost use Rattle.tp_deorder.specs.Answers.{IsPlanNetOf};
@@ -16,7 +16,7 @@ use tp_exec_machine::{Command, Executive, perform_all};
 use tp_happen::{Plan, Step};
 use tp_repair::RepairNet;
 use tp_task::Task;
-use tp_testkit_tasks::{CHARGES, FUSES, World};
+use tp_testkit_tasks::{CHARGES, FUSES, SWITCHES, TANKS, World};
 use tp_validate::ValidPlan;
 
 /// An executive over the network of a plan, under the greatest limits.
@@ -158,7 +158,7 @@ fn comes_of(alloc: Global, run: Run) -> Result<bool, Fail> {
 
 const MENDED: &str = "0: (light-match m1) [8]\n0: (mend-fuse f1) [5]";
 
-const RUNS: [Run; 4] = [
+const RUNS: [Run; 5] = [
     // later than planned
     Run {
         world: FUSES,
@@ -199,16 +199,30 @@ const RUNS: [Run; 4] = [
         ],
         steps: None,
     },
-    // as planned
+    // give before drop, though no earlier than it
     Run {
-        world: CHARGES,
-        plan: "0: (charge) [4]",
+        world: SWITCHES,
+        plan: "0: (watch) [5]\n2: (give)\n3: (drop)",
         commands: &[
             Command::Dispatch(0),
-            Command::Advance(4),
+            Command::Advance(1),
+            Command::Dispatch(3),
+            Command::Dispatch(2),
+            Command::Advance(5),
             Command::Dispatch(1),
         ],
-        steps: Some(&[(0, 0, 4)]),
+        steps: Some(&[(0, 3, 5), (1, 2, 0), (1, 1, 0)]),
+    },
+    // in the other order
+    Run {
+        world: TANKS,
+        plan: "1: (fill-a)\n1: (fill-b)",
+        commands: &[
+            Command::Dispatch(1),
+            Command::Advance(7),
+            Command::Dispatch(0),
+        ],
+        steps: Some(&[(7, 0, 0), (0, 1, 0)]),
     },
 ];
 

@@ -19,27 +19,22 @@ fn tells(task: &Task, action: &str, atom: &str) -> Result<bool, Fail> {
     Ok(first.as_str() == action && second.as_str() == atom)
 }
 
-fn tells_first(alloc: Global, world: World<'_>, action: &str, atom: &str) -> Result<bool, Fail> {
-    let task = task_of(alloc, world)?;
-    tells(&task, action, atom)
+/// Whether they have these in the task of all actions and in that of those in reach.
+fn tell_both(alloc: Global, world: World<'_>, action: &str, atom: &str) -> Result<bool, Fail> {
+    let all = task_of(alloc, world)?;
+    let kept = kept_of(alloc, world)?;
+    Ok(tells(&all, action, atom)? && tells(&kept, action, atom)?)
 }
 
 #[test]
 fn texts_of_actions_and_atoms(rt: HostRuntime) -> Result<(), Fail> {
-    assert!(rt; tells_first(rt.alloc(), FUSES, "(light-match m1)", "(unused m1)")?);
-    assert!(rt; tells_first(rt.alloc(), SWITCHES, "(need)", "(p)")?);
-    Ok(())
-}
-
-fn tells_kept(alloc: Global, world: World<'_>, action: &str, atom: &str) -> Result<bool, Fail> {
-    let task = kept_of(alloc, world)?;
-    tells(&task, action, atom)
-}
-
-#[test]
-fn texts_of_actions_in_reach(rt: HostRuntime) -> Result<(), Fail> {
-    assert!(rt; tells_kept(rt.alloc(), FUSES, "(light-match m1)", "(unused m1)")?);
-    assert!(rt; tells_kept(rt.alloc(), SWITCHES, "(need)", "(p)")?);
+    for (world, action, atom) in [
+        (FUSES, "(light-match m1)", "(unused m1)"),
+        (SWITCHES, "(need)", "(p)"),
+        (CHARGES, "(charge)", "(full)"),
+    ] {
+        assert!(rt; tell_both(rt.alloc(), world, action, atom)?, "{action}");
+    }
     Ok(())
 }
 

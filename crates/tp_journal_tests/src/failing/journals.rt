@@ -1,8 +1,8 @@
 //! Sessions whose journal is kept, and what stops them.
 
 use super::sessions::{
-    Device, MOST, SLOW, SOUND, Seen, front, front_lines, headed, lines_in, run, see, sink_of,
-    source_of, whole,
+    Device, SLOW, SOUND, Seen, front, front_lines, headed, lines_in, run, see, sink_of, source_of,
+    whole,
 };
 use std::alloc::Global;
 use tp_journal_pairs::{JournalFault, journal};
@@ -26,13 +26,13 @@ struct Left {
     seen: Seen,
 }
 
-/// What is left behind these commands, of which at most so many bytes are read.
-fn record(alloc: Global, most: u64, log: Device) -> Result<Left, ServeFault> {
+/// What is left behind these commands.
+fn record(alloc: Global, log: Device) -> Result<Left, ServeFault> {
     let mut source = source_of(COMMANDS, SOUND);
     let mut answers = sink_of(alloc, SLOW);
     let mut pages = sink_of(alloc, log);
     let buffers = LineBuffers::new(alloc, 256)?;
-    let mut lines = Lines::with_limit(buffers, &mut source, most);
+    let mut lines = Lines::new(buffers, &mut source);
     let mut executive = headed(alloc, &mut lines)?;
     let served = journal(&mut executive, &mut lines, &mut answers, &mut pages);
     Ok(Left {
@@ -77,7 +77,7 @@ fn tears_at(alloc: Global, call: usize) -> bool {
         pace: 1,
         stop: Stop::Call(call),
     };
-    let Ok(left) = record(alloc, MOST, log) else {
+    let Ok(left) = record(alloc, log) else {
         return false;
     };
     let text = front(JOURNAL, call);
@@ -89,28 +89,6 @@ fn tears_at(alloc: Global, call: usize) -> bool {
 fn logs_that_fail(rt: HostRuntime) {
     let alloc = rt.alloc();
     for call in 0..JOURNAL.len() {
-        assert!(rt; tears_at(alloc, call) || tears_at(alloc, call), "{call}");
-    }
-}
-
-/// Whether the pairs of the lines that are whole in so many bytes, which are all that may be read,
-/// are kept and answered.
-fn keeps_at_most(alloc: Global, most: usize) -> bool {
-    let Ok(left) = record(alloc, most as u64, SOUND) else {
-        return lines_in(front(COMMANDS, most)) == 0;
-    };
-    let done = lines_in(front(COMMANDS, most)).saturating_sub(1);
-    left.log.as_slice() == front_lines(JOURNAL, done.saturating_mul(2).saturating_add(3))
-        && is_left(alloc, &left, JournalFault::TooLong, done, done)
-}
-
-#[test]
-fn journals_of_at_most_so_many_bytes(rt: HostRuntime) {
-    let alloc = rt.alloc();
-    for most in 0..COMMANDS.len() {
-        assert!(rt;
-            keeps_at_most(alloc, most) || keeps_at_most(alloc, most),
-            "{most}"
-        );
+        assert!(rt; tears_at(alloc, call), "{call}");
     }
 }

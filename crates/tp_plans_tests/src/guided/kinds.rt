@@ -96,18 +96,14 @@ fn value_in(alloc: Global, task: &Task, by_most: bool, seed: u64) -> Result<u32,
     Ok(if first == again { first } else { DEAD })
 }
 
+/// Whether the state at first has that value; whatever the costs and the ties, what is out of reach
+/// stays so, and what is in reach is.
 fn is_worth(rt: &impl Abort, alloc: Global, goal: &str, value: u32) -> Result<(), Fail> {
     let task = task_for(alloc, goal)?;
     let found = value_in(alloc, &task, false, 0)?;
     assert!(rt; found == value, "{goal}: {found}");
-    Ok(())
-}
-
-// Whatever the costs and the ties, what is out of reach stays so, and what is in reach is.
-fn is_reached_alike(rt: &impl Abort, alloc: Global, goal: &str, value: u32) -> Result<(), Fail> {
-    let task = task_for(alloc, goal)?;
-    let found = value_in(alloc, &task, true, 7)?;
-    assert!(rt; (found == DEAD) == (value == DEAD), "{goal}: {found}");
+    let by_most = value_in(alloc, &task, true, 7)?;
+    assert!(rt; (by_most == DEAD) == (value == DEAD), "{goal}: {by_most}");
     Ok(())
 }
 
@@ -115,14 +111,6 @@ fn is_reached_alike(rt: &impl Abort, alloc: Global, goal: &str, value: u32) -> R
 fn goals_are_worth_their_events(rt: HostRuntime) -> Result<(), Fail> {
     for (goal, value) in GOALS {
         is_worth(&rt, rt.alloc(), goal, value)?;
-    }
-    Ok(())
-}
-
-#[test]
-fn goals_are_reached_alike(rt: HostRuntime) -> Result<(), Fail> {
-    for (goal, value) in GOALS {
-        is_reached_alike(&rt, rt.alloc(), goal, value)?;
     }
     Ok(())
 }

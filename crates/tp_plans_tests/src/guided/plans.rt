@@ -70,16 +70,3 @@ fn a_running_step_has_to_end(rt: HostRuntime) -> Result<(), Fail> {
     assert!(rt; heuristic.plan().is_empty());
     Ok(())
 }
-
-// What was applied is taken back.
-#[test]
-fn events_are_undone(rt: HostRuntime) -> Result<(), Fail> {
-    let task = task_for(rt.alloc(), "(on l1)")?;
-    let mut state = State::initial(rt.alloc(), &task)?;
-    let before = state.holds(&task, &task.goal);
-    start(&mut state, &task, SWITCH)?;
-    let after = state.holds(&task, &task.goal);
-    state.undo();
-    assert!(rt; !before && after && !state.holds(&task, &task.goal));
-    Ok(())
-}

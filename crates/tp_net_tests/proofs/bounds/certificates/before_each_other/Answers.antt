@@ -1,8 +1,0 @@
-use Rattle.std.proofs.Common.{ap, ◌∙◌}
-use Rattle.std.specs.Ordering.{nat_cmp}
-use Rattle.std.specs.FinMap.{get, get-empty}
-use Rattle.tp_bounds.specs.Setting.{Setting}
-use Rattle.tp_net_tests.proofs.bounds.certificates.before_each_other.Goals as goal
-
-pub put-requires-clause-unused : goal.put-requires-clause-unused
-put-requires-clause-unused c = ap (λ (s : Setting). get s.bounds 0) c.in_ok-setting.ensures ∙ get-empty nat_cmp 0
