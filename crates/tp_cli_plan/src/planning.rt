@@ -440,8 +440,9 @@ fn plan<N: Files, B: Write, O: Sink>(
 /// The search is of the task that `ground_reached` makes: no more actions than its relaxed reach
 /// keeps. In the guided order the task that `ground_joined` makes is searched in its place where it
 /// is whole; else the guided search alone has it first, and where that proposes no valid plan, the
-/// other order answers with what is left of the budget. The cost is that of reading both texts, of grounding and of the search. What a
-/// guided search tells of plans as it finds them goes to `board`, if the words wish for it.
+/// other order answers with what is left of the budget. The cost is that of reading both texts, of
+/// grounding and of the search. What a guided search tells of plans as it finds them goes to
+/// `board`, if the words wish for it.
 pub fn run_plan<N: Files, B: Write, O: Sink, F: Sink>(
     alloc: Global,
     files: &mut N,

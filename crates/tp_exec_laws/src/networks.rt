@@ -1,5 +1,5 @@
-//! The network of a plan, its schedules and its runs are the same for each task of a problem that has
-//! the plan's actions.
+//! The network of a plan, its schedules and its runs are the same for each task of a problem that
+//! has the plan's actions.
 
 ghost use Rattle.tp_exec_laws.specs.SameNetworks.{PlansHaveSameNetworks};
 
