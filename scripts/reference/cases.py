@@ -3,7 +3,8 @@
 `expected.tsv` has one line per case: plan, domain, problem, scale, horizon, exit
 status, line; paths of plans (and of domains made with them) are relative to the
 folder, others absolute.  Cases in which a number passes 10^15 are left out, since
-the program may answer Range there."""
+the program may answer Range there.  A case is judged twice: by the task of all ground
+actions, and by that of the actions that the plan names."""
 
 import argparse
 import collections
@@ -11,12 +12,13 @@ from pathlib import Path
 
 import validity
 from check import verdict
+from task import Task
 
 
 EXAMPLES = Path(__file__).resolve().parents[2] / "examples"
 
 
-def arguments(with_examples=False):
+def arguments(with_examples=False, with_wide=False):
     """The words of a call that makes a folder of cases."""
     p = argparse.ArgumentParser()
     p.add_argument("--seed", type=int, default=1)
@@ -24,6 +26,8 @@ def arguments(with_examples=False):
     p.add_argument("--out", required=True)
     if with_examples:
         p.add_argument("--examples", default=str(EXAMPLES))
+    if with_wide:
+        p.add_argument("--wide", action="store_true")
     return p.parse_args()
 
 
@@ -50,6 +54,9 @@ class Cases:
         """`thin` says whether to leave this one out, given its line."""
         validity.passed_limit[0] = False
         line, status = verdict(task, plan.encode(), scale, horizon)
+        some = Task(task.domain, task.problem, named=True)
+        if (line, status) != verdict(some, plan.encode(), scale, horizon):
+            raise SystemExit(f"{line!r} for all actions, not for those that the plan names:\n{plan}")
         if validity.passed_limit[0]:
             self.kinds["left out: past 10^15"] += 1
             return

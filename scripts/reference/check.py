@@ -30,9 +30,9 @@ def load(name, part):
     return data
 
 
-def load_task(domain, problem):
+def load_task(domain, problem, named=False):
     d = read_domain(load(domain, "domain"))
-    return Task(d, read_problem(load(problem, "problem"), d))
+    return Task(d, read_problem(load(problem, "problem"), d), named)
 
 
 def verdict(task, plan_bytes, scale, horizon):
@@ -64,14 +64,15 @@ def main():
     p.add_argument("--events", action="store_true", help="the plan's events by number")
     w = p.parse_args()
     try:
-        task = load_task(w.domain, w.problem)
+        task = load_task(w.domain, w.problem, named=True)
+        steps = read_plan(load(w.plan, "plan"), task, w.scale, w.horizon)
+        task.count_mentioned()
         if w.stats:
             print(
                 f"objects {len(task.objects)} atoms {len(task.atoms)} "
                 f"fluents {len(task.fluents)} actions {len(task.actions)}",
                 file=sys.stderr,
             )
-        steps = read_plan(load(w.plan, "plan"), task, w.scale, w.horizon)
     except Fault as f:
         print(f.line, file=sys.stderr)
         return f.status

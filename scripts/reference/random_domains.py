@@ -1,9 +1,10 @@
 #!/usr/bin/env python3
-"""random_domains.py --seed N --count K --out DIR
+"""random_domains.py --seed N --count K --out DIR [--wide]
 
 Small domains and problems of every form of condition, expression, effect and duration
 rule, with dense plans: few atoms and fluents, ticks close together, so that every kind
-of verdict comes up often.  The same seed gives the same folder."""
+of verdict comes up often.  With --wide each action has 16 to 20 parameters: 10^9
+bindings and more.  The same seed gives the same folder."""
 
 import random
 
@@ -27,8 +28,8 @@ def types_of(kind):
 class Writer:
     """Writes random well-typed text of one domain."""
 
-    def __init__(self, rng):
-        self.rng = rng
+    def __init__(self, rng, wide=False):
+        self.rng, self.wide = rng, wide
 
     def pick(self, *of):
         return self.rng.choice(of)
@@ -138,6 +139,9 @@ class Writer:
         for v in ("?a", "?b")[: self.pick(0, 1, 1, 2)]:
             scope[v] = self.pick(*KINDS[:5], *KINDS)
             params.append(f"{v} - {scope[v]}")
+        for i in range(self.pick(16, 18) if self.wide else 0):
+            scope[f"?w{i}"] = self.pick("a", "object")
+            params.append(f"?w{i} - {scope[f'?w{i}']}")
         text = f":parameters ({' '.join(params)})"
         if self.rng.random() < 0.45:
             fields = [text]
@@ -204,10 +208,21 @@ class Writer:
         )
 
 
+def drawn(task, rng):
+    """Some actions of a task."""
+    if not task.named:
+        return rng.sample(task.actions, min(len(task.actions), 6))
+    schemas = [rng.choice(task.domain.actions) for _ in range(6)]
+    return [
+        task.find(a.name, tuple(rng.choice(task.of(kinds)) for _, kinds in a.params))
+        for a in schemas
+    ]
+
+
 def plan(task, scale, rng):
     """A dense plan; steps that can't begin in the initial state are mostly left out."""
     lines, span = [], rng.choice((1, 2, 3, 5, 8))
-    actions = rng.sample(task.actions, min(len(task.actions), 6))
+    actions = drawn(task, rng)
     for _ in range(rng.choice((1, 2, 2, 3, 3, 4, 5, 6))):
         a = rng.choice(actions)
         tick = rng.randrange(span) * rng.choice((1, scale))
@@ -222,18 +237,18 @@ def plan(task, scale, rng):
 
 
 def main():
-    w = arguments()
+    w = arguments(with_wide=True)
     rng = random.Random(w.seed)
     cases, number = Cases(w.out), 0
     while cases.count < w.count:
-        writer = Writer(rng)
+        writer = Writer(rng, w.wide)
         domain, problem = writer.domain(), writer.problem()
         d = read_domain(domain.encode())
         try:
-            task = Task(d, read_problem(problem.encode(), d))
+            task = Task(d, read_problem(problem.encode(), d), named=w.wide)
         except Fault as f:
             raise SystemExit(f"{f.line}\n{domain}{problem}") from None
-        if not task.actions:
+        if not (w.wide or task.actions):
             continue
         names = f"domain-{number}.pddl", f"problem-{number}.pddl"
         number += 1

@@ -1,6 +1,7 @@
 """The task: ground actions, with `forall` and `exists` written out."""
 
 from itertools import product
+from math import prod
 
 from reader import Fault
 
@@ -22,30 +23,34 @@ class GroundAction:
 
 
 class Task:
-    def __init__(self, domain, problem):
-        self.domain, self.problem = domain, problem
+    """The task of all ground actions, or, where `named`, of those that `find` is asked for."""
+
+    def __init__(self, domain, problem, named=False):
+        self.domain, self.problem, self.named = domain, problem, named
         self.objects = problem.objects
         if len(self.objects) > MOST:
             raise Fault("fault ground 2 too-many objects")
         if any(abs(n) > GREATEST for n in numbers(domain, problem)):
             raise Fault("fault ground 3 range")
         self.by_kind = {}
-        self.actions = []
-        count = 0
-        for a in domain.actions:
-            n = 1
-            for _, kinds in a.params:
-                n *= len(self.of(kinds))
-            count += n
-        if count > MOST:
-            raise Fault("fault ground 2 too-many actions")
-        for a in domain.actions:
-            ranges = [self.of(kinds) for _, kinds in a.params]
-            for args in product(*ranges):
-                self.actions.append(self.ground_action(a, args))
-        self.index = {(a.name, a.args): a for a in self.actions}
+        self.actions, self.index = [], {}
+        self.schemas = {a.name: a for a in domain.actions}
         self.goal = self.condition(problem.goal, {})
+        if not named:
+            self.make_all()
         self.count_mentioned()
+
+    def make_all(self):
+        choices = [(a, [self.of(kinds) for _, kinds in a.params]) for a in self.domain.actions]
+        if sum(prod(map(len, ranges)) for _, ranges in choices) > MOST:
+            raise Fault("fault ground 2 too-many actions")
+        for a, ranges in choices:
+            for args in product(*ranges):
+                self.make(a, args)
+
+    def make(self, a, args):
+        self.actions.append(self.ground_action(a, args))
+        self.index[a.name, args] = self.actions[-1]
 
     def of(self, kinds):
         if kinds not in self.by_kind:
@@ -54,7 +59,15 @@ class Task:
         return self.by_kind[kinds]
 
     def find(self, name, args):
+        if self.named and (name, args) not in self.index and self.is_binding(name, args):
+            self.make(self.schemas[name], args)
         return self.index.get((name, args))
+
+    def is_binding(self, name, args):
+        params = self.schemas[name].params if name in self.schemas else None
+        return params is not None and len(params) == len(args) and all(
+            arg in self.of(kinds) for arg, (_, kinds) in zip(args, params)
+        )
 
     def bindings(self, variables, env):
         names = [v for v, _ in variables]
