@@ -1,19 +1,15 @@
-//! The lines of faults, and the exit statuses that go with them.
+//! The lines of faults, and how they are written.
 
 ghost use Rattle.std.specs.Prelude.{◌≡◌, [], ◌++◌, codes, decimal};
 ghost use Rattle.tp_device.specs.Bytes.{Writes, failures_after};
-ghost use Rattle.tp_cli_files.specs.FaultLines.{Tells, TellsFault, construct_line, detail_text, fault_line, fault_line_with, fault_text, head_text, named_line, placed_line};
+ghost use Rattle.tp_cli_files.specs.FaultLines.{Tells, TellsFault, construct_line, detail_text, fault_line, fault_line_with, fault_text, head_text, line_of, line_with, named_line, placed_line};
+ghost use Rattle.tp_cli_files.specs.Faults.{row};
 ghost use Rattle.tp_cli_files.specs.FileFaults.{file_status, file_text};
 
+use crate::faults::{Fault, OUT_OF_ORDER, REFUSED};
 use crate::files::FileFault;
 use itoa::Buffer;
 use tp_device::{Failed, Sink, push_all};
-
-/// The input is refused.
-pub const REFUSED: u8 = 2;
-
-/// Memory or a device is wanting.
-pub const OUT_OF_ORDER: u8 = 3;
 
 /// What stands behind the number and the word of a fault.
 #[derive(Clone, Copy)]
@@ -32,6 +28,30 @@ pub struct FaultLine<'w> {
     pub words: &'static str,
     pub detail: Detail<'w>,
     pub status: u8,
+}
+
+impl Fault {
+    /// Its line, with nothing behind.
+    pub fn line(self) -> FaultLine<'static>
+        ensures status { result.status ≡ (row self).status }
+        ensures text { fault_text result ≡ line_of self }
+    {
+        self.with(Detail::Nothing)
+    }
+
+    /// Its line, with this behind.
+    pub fn with<'w>(self, detail: Detail<'w>) -> FaultLine<'w>
+        ensures status { result.status ≡ (row self).status }
+        ensures text { fault_text result ≡ line_with self (detail_text detail.entry) }
+    {
+        let (part, words, status) = self.row();
+        FaultLine {
+            part,
+            words,
+            detail,
+            status,
+        }
+    }
 }
 
 impl<'w> FaultLine<'w> {
