@@ -34,28 +34,6 @@ line_at fault at = line_with fault (codes " " ++ decimal at)
 abbrev pub line_named : Fault → List ℕ → List ℕ
 line_named fault name = line_with fault (codes " " ++ name)
 
--- the line of a fault of that part, with that number and word, and with this behind
-abbrev pub fault_line_with : List ℕ → List ℕ → List ℕ → List ℕ
-fault_line_with part words behind = ((codes "fault " ++ part) ++ (codes " " ++ words))
-    ++ (behind ++ codes "\n")
-
--- the same with nothing behind
-abbrev pub fault_line : List ℕ → List ℕ → List ℕ
-fault_line part words = fault_line_with part words []
-
--- with a place behind, or the number of a line
-abbrev pub placed_line : List ℕ → List ℕ → ℕ → List ℕ
-placed_line part words at = fault_line_with part words (codes " " ++ decimal at)
-
--- with a place and what stands there
-abbrev pub construct_line : List ℕ → List ℕ → ℕ → List ℕ → List ℕ
-construct_line part words at what =
-    fault_line_with part words ((codes " " ++ decimal at) ++ (codes " " ++ what))
-
--- with a name
-abbrev pub named_line : List ℕ → List ℕ → List ℕ → List ℕ
-named_line part words name = fault_line_with part words (codes " " ++ name)
-
 abbrev pub head_text : FaultLine → List ℕ
 head_text line = (codes "fault " ++ line.part.now) ++ (codes " " ++ line.words.now)
 

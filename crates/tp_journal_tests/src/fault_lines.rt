@@ -3,7 +3,7 @@
 use crate::memory::Note;
 use std::alloc::Global;
 use tp_cli_bare::{BareFault, bare_line, serve_line};
-use tp_cli_files::{CallFault, FaultLine, FileFault, complain, refuse_call};
+use tp_cli_files::{CallFault, FaultLine, FileFault, Part, complain, refuse_call};
 use tp_script::ServeFault;
 
 /// Whether the line is written so, and goes with that status.
@@ -43,7 +43,7 @@ const SERVING: [Row<ServeFault>; 5] = [
 fn first_other_file(alloc: Global, rows: &[Row<FileFault>]) -> Option<usize> {
     rows.iter().position(|row| !spells(
         alloc,
-        FaultLine::of_file("plan", row.0, "x y"),
+        FaultLine::of_file(Part::Plan, row.0, "x y"),
         row.1,
         row.2,
     ))
