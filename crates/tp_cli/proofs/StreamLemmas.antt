@@ -38,7 +38,8 @@ use Rattle.tp_cli.specs.Checks.{SaysPart, SaysValid}
 use Rattle.tp_cli.specs.Done.{AnswersNo, DoesPart, DoesWhatIsAsked, IsAnsweredNo, IsDone, IsPartDone}
 use Rattle.tp_cli.specs.Journaled.{AsksForNoJournal, LogsSome}
 use Rattle.tp_cli.specs.Networks.{ShowsNetwork, ShowsPart}
-use Rattle.tp_cli_files.specs.FaultLines.{TellsFault, TellsRefusal, fault_line}
+use Rattle.tp_cli_files.specs.FaultLines.{TellsFault, TellsRefusal, line_of}
+use Rattle.tp_cli_files.specs.declared.faults.Fault.TheVariants as faults
 use Rattle.tp_cli_args.specs.Requests.{AsksFor, AsksForNoCommands}
 use Rattle.tp_cli.specs.Endings.{EndsCall}
 use Rattle.tp_cli.specs.Streams.{Ends, HandsOn, IsStopped, Runs, TellsSome}
@@ -575,7 +576,7 @@ tells_some failures failures-now a b h = (h.text, [], h.is, inl refl, h.told.par
 pub refusal_some : (status failures failures-now : ℕ) (a b : Option (List ℕ)) → TellsRefusal status failures a failures-now b → TellsSome a b
 refusal_some status failures failures-now a b (inl h) = tells_some failures failures-now a b h
 refusal_some status failures failures-now a b (inr h) =
-    (fault_line (codes "arguments") (codes "1 words"), h.1.0, (codes "arguments 1 words", refl), inr refl, h.1.1.part)
+    (line_of faults.ArgumentsWords, h.1.0, (codes "arguments 1 words", refl), inr refl, h.1.1.part)
 
 -- ---- a run
 

@@ -1,8 +1,9 @@
 -- How a call ends with another status than 0 and 1: what stopped it was told, and it is as it is told.
-use Rattle.std.specs.Prelude.{◌≡◌, ℕ, List, ◌++◌, Option, Some, None, ◌⊎◌, codes}
+use Rattle.std.specs.Prelude.{◌≡◌, ℕ, List, ◌++◌, Option, Some, None, ◌⊎◌}
 use Rattle.std.specs.String.{string_bytes}
 use Rattle.tp_device.specs.Bytes.{AppendsPart}
-use Rattle.tp_cli_files.specs.FaultLines.{Tells, fault_line}
+use Rattle.tp_cli_files.specs.FaultLines.{Tells, line_of}
+use Rattle.tp_cli_files.specs.declared.faults.Fault.TheVariants as faults
 use Rattle.tp_cli_bare.specs.Bare.{StopsBare}
 use Rattle.tp_cli_bare.specs.Logged.{EndsJournaled}
 use Rattle.tp_cli_audit.specs.Bare.{EndsBareAudit}
@@ -29,8 +30,7 @@ pub record LacksMemory (status : ℕ) (held held-now : Option (List ℕ)) (outpu
   pub three : status ≡ 3
   pub kept : held-now ≡ held
   pub same : output-now ≡ output
-  pub told : Tells (fault_line (codes "arguments") (codes "2 memory"))
-      failures before failures-now now
+  pub told : Tells (line_of faults.ArgumentsMemory) failures before failures-now now
 
 -- the words are refused
 pub record RefusesWords (status : ℕ) (held held-now : Option (List ℕ)) (output output-now : ℕ)
@@ -40,15 +40,14 @@ pub record RefusesWords (status : ℕ) (held held-now : Option (List ℕ)) (outp
   pub kept : held-now ≡ held
   pub same : output-now ≡ output
   pub more : List ℕ
-  pub told : Tells (fault_line (codes "arguments") (codes "1 words") ++ more)
-      failures before failures-now now
+  pub told : Tells (line_of faults.ArgumentsWords ++ more) failures before failures-now now
 
 -- help was not written whole
 pub record StopsHelp (text : List ℕ) (status : ℕ) (held held-now : Option (List ℕ)) (failures : ℕ)
     (before : Option (List ℕ)) (failures-now : ℕ) (now : Option (List ℕ)) : Type 0 where
   pub three : status ≡ 3
   pub part : AppendsPart held held-now text
-  pub told : Tells (fault_line (codes "script") (codes "2 write")) failures before failures-now now
+  pub told : Tells (line_of faults.ScriptWrite) failures before failures-now now
 
 -- how what is asked for ends
 abbrev pub EndsRequest : Request → CallFiles → Option (List ℕ) → ℕ → ℕ → ℕ

@@ -1,11 +1,12 @@
 -- What is told where a command on a plan in files stops, and why it stops.
-use Rattle.std.specs.Prelude.{◌≡◌, ℕ, ◌+◌, List, Option, Bool, false, Result, Ok, Err, codes}
+use Rattle.std.specs.Prelude.{◌≡◌, ℕ, ◌+◌, List, Option, Bool, false, Result, Ok, Err}
 use Rattle.tp_device.specs.Bytes.{AppendsPart}
 use Rattle.tp_task.specs.declared.task.Task.{Task}
 use Rattle.tp_happen.specs.tp_plan_text.declared.plans.Step.{Step}
 use Rattle.tp_deorder.specs.declared.DeorderFault.{DeorderFault}
 use Rattle.tp_cli_files.specs.Causes.{raised}
-use Rattle.tp_cli_files.specs.FaultLines.{Tells, fault_line}
+use Rattle.tp_cli_files.specs.FaultLines.{Tells, line_of}
+use Rattle.tp_cli_files.specs.declared.faults.Fault.TheVariants as faults
 use Rattle.tp_cli_inputs.specs.Causes.{Explains}
 use Rattle.tp_cli_inputs.specs.JudgeLines.{judge_status, judge_text, judge_unread}
 use Rattle.tp_cli_inputs.specs.Named.{IsNamedPlan}
@@ -22,7 +23,7 @@ stop_status Write = 3
 abbrev pub stop_text : PlanWords → PlanStop → List ℕ
 stop_text w (Judging fault) = judge_text w fault
 stop_text w (Network fault) = network_text fault
-stop_text w Write = fault_line (codes "script") (codes "2 write")
+stop_text w Write = line_of faults.ScriptWrite
 
 -- a write that failed is counted
 abbrev pub stop_failures : {T : Type 0} → ℕ → Result T PlanStop → ℕ

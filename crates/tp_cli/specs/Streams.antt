@@ -1,5 +1,5 @@
 -- A run over readers and writers of std.
-use Rattle.std.specs.Prelude.{◌≡◌, ◌≢◌, ◌≤◌, ◌⊎◌, ℕ, List, [], ◌++◌, Option, Some, None, MatchOption, IfSome, codes}
+use Rattle.std.specs.Prelude.{◌≡◌, ◌≢◌, ◌≤◌, ◌⊎◌, ℕ, List, [], ◌++◌, Option, Some, None, MatchOption, IfSome}
 use Rattle.std.specs.Io.KnownBytes.{Appends, Keeps}
 use Rattle.tp_device.specs.Bytes.{AppendsPart}
 use Rattle.tp_cli_bare.specs.Bare.{AnswersAll, AnswersPart, IsRefused}
@@ -7,7 +7,8 @@ use Rattle.tp_cli.specs.CallFiles.{CallFiles}
 use Rattle.tp_cli.specs.Done.{AnswersNo, DoesPart, DoesWhatIsAsked}
 use Rattle.tp_cli.specs.Endings.{EndsCall}
 use Rattle.tp_cli.specs.Journaled.{AsksForNoJournal}
-use Rattle.tp_cli_files.specs.FaultLines.{IsFaultText, TellsFault, fault_line}
+use Rattle.tp_cli_files.specs.FaultLines.{IsFaultText, TellsFault, line_of}
+use Rattle.tp_cli_files.specs.declared.faults.Fault.TheVariants as faults
 use Rattle.tp_cli_args.specs.Requests.{AsksFor, AsksForNoCommands}
 use Rattle.tp_cli_args.specs.declared.requests.Request.TheVariants.{Bare}
 
@@ -16,7 +17,7 @@ use Rattle.tp_cli_args.specs.declared.requests.Request.TheVariants.{Bare}
 abbrev pub TellsSome : Option (List ℕ) → Option (List ℕ) → Type 0
 TellsSome before now =
     (text : List ℕ) × (more : List ℕ) × IsFaultText text
-    × ((more ≡ []) ⊎ (text ≡ fault_line (codes "arguments") (codes "1 words")))
+    × ((more ≡ []) ⊎ (text ≡ line_of faults.ArgumentsWords))
     × AppendsPart before now (text ++ more)
 
 -- What is written to the output, by the exit status. It was done what the words ask for; the answer is no; of a network of bounds all is

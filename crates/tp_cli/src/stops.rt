@@ -4,7 +4,7 @@ ghost use Rattle.std.specs.Prelude.{◌≡◌};
 ghost use Rattle.tp_cli_files.specs.FaultLines.{fault_text};
 ghost use Rattle.tp_cli.specs.Stops.{stop_status, stop_text};
 
-use tp_cli_files::FaultLine;
+use tp_cli_files::{Fault, FaultLine};
 use tp_cli_inputs::{JudgeFault, PlanWords, judge_line};
 use tp_cli_run::network_line;
 use tp_deorder::DeorderFault;
@@ -28,6 +28,6 @@ pub fn stop_line<'w>(stop: PlanStop, words: PlanWords<'w>) -> FaultLine<'w>
     match stop {
         PlanStop::Judging(fault) => judge_line(fault, words),
         PlanStop::Network(fault) => network_line(fault),
-        PlanStop::Write => FaultLine::out_of_order("script", "2 write"),
+        PlanStop::Write => Fault::ScriptWrite.line(),
     }
 }

@@ -15,7 +15,7 @@ use crate::desk::Desk;
 use crate::words::run_words;
 use std::alloc::Global;
 use std::io::{LineWriter, Read, Write};
-use tp_cli_files::{CallFault, FaultLine, Files, Logs, OUT_OF_ORDER, complain, refuse_call};
+use tp_cli_files::{CallFault, Fault, Files, Logs, OUT_OF_ORDER, complain, refuse_call};
 use tp_device::{FromRead, Sink, ToWrite};
 
 /// What a run came to: its exit status, and the writers. The output is gone where the last of it
@@ -52,7 +52,7 @@ fn tell_lost<F: Sink>(status: u8, faults: &mut F)
     ensures same { 2 ≤ status → F.held faults.new ≡ F.held faults.old }
 {
     if status <= 1 {
-        complain(faults, FaultLine::out_of_order("script", "2 write"));
+        complain(faults, Fault::ScriptWrite.line());
     }
 }
 
@@ -120,7 +120,7 @@ fn refuse_memory<F: Sink>(faults: &mut F) -> u8
     ensures fault { TellsFault [] (F.failures faults.old) (F.held faults.old)
         (F.failures faults.new) (F.held faults.new) }
 {
-    complain(faults, FaultLine::out_of_order("script", "3 memory"))
+    complain(faults, Fault::ScriptMemory.line())
 }
 
 /// Ends a run that has no memory for the buffer of the output. Nothing is done.

@@ -21,7 +21,7 @@ use tp_cli_args::{NoRequest, Request, read_words};
 use tp_cli_audit::{run_bare_audit, run_plan_audit};
 use tp_cli_bare::{run_bare, run_bare_journal};
 use tp_cli_draw::run_draw;
-use tp_cli_files::{FaultLine, Files, Logs, OUT_OF_ORDER, REFUSED, complain, complain_more};
+use tp_cli_files::{Fault, Files, Logs, OUT_OF_ORDER, REFUSED, complain, complain_more};
 use tp_cli_plan::run_plan;
 use tp_cli_resume::{run_bare_resume, run_run_resume};
 use tp_cli_run::{run_run, run_run_journal};
@@ -139,10 +139,7 @@ pub fn run_words<N: Files, L: Logs, B: Write, I: Source, O: Sink, F: Sink>(
         Ok(Request::Draw(words)) => run_draw(alloc, shelf, words, output, faults),
         Ok(Request::Help(text)) => show(text.as_str(), output, faults),
         Err(NoRequest::Words(text)) => refuse_words(text, faults),
-        Err(NoRequest::Memory) => complain(
-            faults,
-            FaultLine::out_of_order("arguments", "2 memory"),
-        ),
+        Err(NoRequest::Memory) => complain(faults, Fault::ArgumentsMemory.line()),
     }
 }
 
@@ -160,7 +157,7 @@ fn show<O: Sink, F: Sink>(text: &str, output: &mut O, faults: &mut F) -> u8
 {
     match push_all(output, text.as_bytes()) {
         Ok(()) => 0,
-        Err(_) => complain(faults, FaultLine::out_of_order("script", "2 write")),
+        Err(_) => complain(faults, Fault::ScriptWrite.line()),
     }
 }
 
@@ -173,7 +170,7 @@ fn refuse_words<F: Sink>(text: Option<String>, faults: &mut F) -> u8
     ensures fault { TellsRefusal result (F.failures faults.old) (F.held faults.old)
         (F.failures faults.new) (F.held faults.new) }
 {
-    let line = FaultLine::refused("arguments", "1 words");
+    let line = Fault::ArgumentsWords.line();
     match text {
         Some(text) => complain_more(faults, line, text.as_str()),
         None => complain(faults, line),

@@ -1,6 +1,8 @@
 -- The lines of what hinders an audit, and their exit statuses.
-use Rattle.std.specs.Prelude.{ℕ, List, Bool, true, false, codes}
-use Rattle.tp_cli_files.specs.FaultLines.{fault_line, named_line, placed_line}
+use Rattle.std.specs.Prelude.{ℕ, List, Bool, true, false}
+use Rattle.tp_cli_files.specs.FaultLines.{line_at, line_named, line_of}
+use Rattle.tp_cli_files.specs.declared.faults.Part.TheVariants as parts
+use Rattle.tp_cli_files.specs.declared.faults.Fault.TheVariants as faults
 use Rattle.tp_cli_audit.specs.declared.audit_lines.AuditStop.{AuditStop}
 use Rattle.tp_cli_audit.specs.declared.audit_lines.AuditStop.TheVariants.{Open, Network, Memory, Read, Line, Head, Write}
 
@@ -15,13 +17,13 @@ stop_status Write = 3
 
 -- the line for the name of the journal's file
 abbrev pub stop_text : List ℕ → AuditStop → List ℕ
-stop_text log Open = named_line (codes "file") (codes "1 read") log
-stop_text log Network = fault_line (codes "run") (codes "1 memory")
-stop_text log Memory = fault_line (codes "journal") (codes "1 memory")
-stop_text log Read = fault_line (codes "journal") (codes "2 read")
-stop_text log (Line n) = placed_line (codes "journal") (codes "3 line") n
-stop_text log Head = fault_line (codes "journal") (codes "5 head")
-stop_text log Write = fault_line (codes "script") (codes "2 write")
+stop_text log Open = line_named faults.FileRead log
+stop_text log Network = line_of (faults.Memory parts.Run)
+stop_text log Memory = line_of (faults.Memory parts.Journal)
+stop_text log Read = line_of faults.JournalRead
+stop_text log (Line n) = line_at faults.JournalLine n
+stop_text log Head = line_of faults.JournalHead
+stop_text log Write = line_of faults.ScriptWrite
 
 -- the file can't be read
 abbrev pub stop_unread : AuditStop → Bool

@@ -4,7 +4,7 @@ ghost use Rattle.std.specs.Prelude.{◌≡◌};
 ghost use Rattle.tp_cli_files.specs.FaultLines.{fault_text};
 ghost use Rattle.tp_cli_audit.specs.AuditLines.{stop_status, stop_text};
 
-use tp_cli_files::{FaultLine, FileFault};
+use tp_cli_files::{Detail, Fault, FaultLine, FileFault, Part};
 
 /// What hinders an audit.
 #[derive(Clone, Copy)]
@@ -31,12 +31,12 @@ pub fn audit_stop_line<'w>(stop: AuditStop, log: &'w str) -> FaultLine<'w>
     ensures text { fault_text result ≡ stop_text log.entry.now stop }
 {
     match stop {
-        AuditStop::Open => FaultLine::of_file("journal", FileFault::Read, log),
-        AuditStop::Network => FaultLine::out_of_order("run", "1 memory"),
-        AuditStop::Memory => FaultLine::out_of_order("journal", "1 memory"),
-        AuditStop::Read => FaultLine::out_of_order("journal", "2 read"),
-        AuditStop::Line(n) => FaultLine::on_line("journal", "3 line", n as usize),
-        AuditStop::Head => FaultLine::refused("journal", "5 head"),
-        AuditStop::Write => FaultLine::out_of_order("script", "2 write"),
+        AuditStop::Open => FaultLine::of_file(Part::Journal, FileFault::Read, log),
+        AuditStop::Network => Fault::Memory(Part::Run).line(),
+        AuditStop::Memory => Fault::Memory(Part::Journal).line(),
+        AuditStop::Read => Fault::JournalRead.line(),
+        AuditStop::Line(n) => Fault::JournalLine.with(Detail::Line(n as usize)),
+        AuditStop::Head => Fault::JournalHead.line(),
+        AuditStop::Write => Fault::ScriptWrite.line(),
     }
 }

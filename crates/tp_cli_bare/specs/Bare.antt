@@ -1,5 +1,5 @@
 -- What is written for a network and its commands.
-use Rattle.std.specs.Prelude.{◌≡◌, ℕ, ◌+◌, ◌≤◌, ◌<◌, List, [], ◌∷◌, ◌++◌, length, Option, Some, None, Result, Ok, Err, ◌⊎◌, codes}
+use Rattle.std.specs.Prelude.{◌≡◌, ℕ, ◌+◌, ◌≤◌, ◌<◌, List, [], ◌∷◌, ◌++◌, length, Option, Some, None, Result, Ok, Err, ◌⊎◌}
 use Rattle.std.specs.Io.KnownBytes.{Appends}
 use Rattle.tp_device.specs.Bytes.{AppendsPart}
 use Rattle.tp_bounds.specs.RunLimits.{greatest_limits}
@@ -14,7 +14,7 @@ use Rattle.tp_script.specs.Serving.{Serves, ServesAll, head_of}
 use Rattle.tp_script.specs.declared.serving.Served.{Served}
 use Rattle.tp_script.specs.declared.serving.ServeFault.{ServeFault}
 use Rattle.tp_script.specs.declared.serving.ServeFault.TheVariants as serving
-use Rattle.tp_cli_files.specs.FaultLines.{Tells, fault_line}
+use Rattle.tp_cli_files.specs.FaultLines.{Tells}
 use Rattle.tp_cli_bare.specs.ServeLines.{bare_status, bare_text}
 use Rattle.tp_cli_bare.specs.declared.bare.BareFault.{BareFault}
 use Rattle.tp_cli_bare.specs.declared.bare.BareFault.TheVariants.{Network, Serving}

@@ -1,6 +1,7 @@
 -- The lines of what ends commands early whose journal is kept, and their exit statuses.
-use Rattle.std.specs.Prelude.{ℕ, List, Bool, true, false, codes}
-use Rattle.tp_cli_files.specs.FaultLines.{fault_line}
+use Rattle.std.specs.Prelude.{ℕ, List, Bool, true, false}
+use Rattle.tp_cli_files.specs.FaultLines.{line_of}
+use Rattle.tp_cli_files.specs.declared.faults.Fault.TheVariants as faults
 use Rattle.tp_journal_pairs.specs.declared.faults.JournalFault.{JournalFault}
 use Rattle.tp_journal_pairs.specs.declared.faults.JournalFault.TheVariants.{Read, Write, Log, TooLong}
 use Rattle.tp_cli_bare.specs.ServeLines.{bare_status, bare_text}
@@ -14,10 +15,10 @@ journal_status Log = 3
 journal_status TooLong = 2
 
 abbrev pub journal_text : JournalFault → List ℕ
-journal_text Read = fault_line (codes "script") (codes "1 read")
-journal_text Write = fault_line (codes "script") (codes "2 write")
-journal_text Log = fault_line (codes "script") (codes "6 log")
-journal_text TooLong = fault_line (codes "script") (codes "4 too-long")
+journal_text Read = line_of faults.ScriptRead
+journal_text Write = line_of faults.ScriptWrite
+journal_text Log = line_of faults.ScriptLog
+journal_text TooLong = line_of faults.ScriptTooLong
 
 abbrev pub stop_status : JournalStop → ℕ
 stop_status Making = 3
@@ -25,7 +26,7 @@ stop_status (Beginning fault) = bare_status fault
 stop_status (Journaling fault) = journal_status fault
 
 abbrev pub stop_text : JournalStop → List ℕ
-stop_text Making = fault_line (codes "script") (codes "6 log")
+stop_text Making = line_of faults.ScriptLog
 stop_text (Beginning fault) = bare_text fault
 stop_text (Journaling fault) = journal_text fault
 

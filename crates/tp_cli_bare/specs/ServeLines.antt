@@ -1,8 +1,10 @@
 -- The lines of what ends commands early, and their exit statuses.
-use Rattle.std.specs.Prelude.{ℕ, List, codes}
+use Rattle.std.specs.Prelude.{ℕ, List}
 use Rattle.tp_script.specs.declared.serving.ServeFault.{ServeFault}
 use Rattle.tp_script.specs.declared.serving.ServeFault.TheVariants as serving
-use Rattle.tp_cli_files.specs.FaultLines.{fault_line}
+use Rattle.tp_cli_files.specs.FaultLines.{line_of}
+use Rattle.tp_cli_files.specs.declared.faults.Part.TheVariants as parts
+use Rattle.tp_cli_files.specs.declared.faults.Fault.TheVariants as faults
 use Rattle.tp_cli_bare.specs.declared.bare.BareFault.{BareFault}
 use Rattle.tp_cli_bare.specs.declared.bare.BareFault.TheVariants.{Network, Serving}
 
@@ -18,12 +20,12 @@ bare_status Network = 3
 bare_status (Serving fault) = serve_status fault
 
 abbrev pub serve_text : ServeFault → List ℕ
-serve_text serving.Read = fault_line (codes "script") (codes "1 read")
-serve_text serving.Write = fault_line (codes "script") (codes "2 write")
-serve_text serving.Memory = fault_line (codes "script") (codes "3 memory")
-serve_text serving.TooLong = fault_line (codes "script") (codes "4 too-long")
-serve_text serving.Head = fault_line (codes "script") (codes "5 head")
+serve_text serving.Read = line_of faults.ScriptRead
+serve_text serving.Write = line_of faults.ScriptWrite
+serve_text serving.Memory = line_of faults.ScriptMemory
+serve_text serving.TooLong = line_of faults.ScriptTooLong
+serve_text serving.Head = line_of faults.ScriptHead
 
 abbrev pub bare_text : BareFault → List ℕ
-bare_text Network = fault_line (codes "run") (codes "1 memory")
+bare_text Network = line_of (faults.Memory parts.Run)
 bare_text (Serving fault) = serve_text fault

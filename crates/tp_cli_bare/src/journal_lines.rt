@@ -5,7 +5,7 @@ ghost use Rattle.tp_cli_files.specs.FaultLines.{fault_text};
 ghost use Rattle.tp_cli_bare.specs.JournalLines.{journal_status, journal_text, stop_status, stop_text};
 
 use crate::{BareFault, bare_line};
-use tp_cli_files::FaultLine;
+use tp_cli_files::{Fault, FaultLine};
 use tp_journal_pairs::JournalFault;
 
 /// Why commands whose journal is kept were not answered to their end.
@@ -25,10 +25,10 @@ pub fn journal_line(fault: JournalFault) -> FaultLine<'static>
     ensures text { fault_text result ≡ journal_text fault }
 {
     match fault {
-        JournalFault::Read => FaultLine::out_of_order("script", "1 read"),
-        JournalFault::Write => FaultLine::out_of_order("script", "2 write"),
-        JournalFault::Log => FaultLine::out_of_order("script", "6 log"),
-        JournalFault::TooLong => FaultLine::refused("script", "4 too-long"),
+        JournalFault::Read => Fault::ScriptRead.line(),
+        JournalFault::Write => Fault::ScriptWrite.line(),
+        JournalFault::Log => Fault::ScriptLog.line(),
+        JournalFault::TooLong => Fault::ScriptTooLong.line(),
     }
 }
 
@@ -38,7 +38,7 @@ pub fn journal_stop_line(stop: JournalStop) -> FaultLine<'static>
     ensures text { fault_text result ≡ stop_text stop }
 {
     match stop {
-        JournalStop::Making => FaultLine::out_of_order("script", "6 log"),
+        JournalStop::Making => Fault::ScriptLog.line(),
         JournalStop::Beginning(fault) => bare_line(fault),
         JournalStop::Journaling(fault) => journal_line(fault),
     }

@@ -5,7 +5,7 @@ ghost use Rattle.tp_cli_files.specs.FaultLines.{fault_text};
 ghost use Rattle.tp_cli_bare.specs.ServeLines.{bare_status, bare_text, serve_status, serve_text};
 
 use crate::bare::BareFault;
-use tp_cli_files::FaultLine;
+use tp_cli_files::{Fault, FaultLine, Part};
 use tp_script::ServeFault;
 
 /// The line of commands that could not be read or answered.
@@ -14,11 +14,11 @@ pub fn serve_line(fault: ServeFault) -> FaultLine<'static>
     ensures text { fault_text result ≡ serve_text fault }
 {
     match fault {
-        ServeFault::Read => FaultLine::out_of_order("script", "1 read"),
-        ServeFault::Write => FaultLine::out_of_order("script", "2 write"),
-        ServeFault::Memory => FaultLine::out_of_order("script", "3 memory"),
-        ServeFault::TooLong => FaultLine::refused("script", "4 too-long"),
-        ServeFault::Head => FaultLine::refused("script", "5 head"),
+        ServeFault::Read => Fault::ScriptRead.line(),
+        ServeFault::Write => Fault::ScriptWrite.line(),
+        ServeFault::Memory => Fault::ScriptMemory.line(),
+        ServeFault::TooLong => Fault::ScriptTooLong.line(),
+        ServeFault::Head => Fault::ScriptHead.line(),
     }
 }
 
@@ -28,7 +28,7 @@ pub fn bare_line(fault: BareFault) -> FaultLine<'static>
     ensures text { fault_text result ≡ bare_text fault }
 {
     match fault {
-        BareFault::Network => FaultLine::out_of_order("run", "1 memory"),
+        BareFault::Network => Fault::Memory(Part::Run).line(),
         BareFault::Serving(fault) => serve_line(fault),
     }
 }

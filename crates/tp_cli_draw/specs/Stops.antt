@@ -1,6 +1,8 @@
 -- The lines of what stops a picture, and their exit statuses.
 use Rattle.std.specs.Prelude.{ℕ, ◌+◌, List, [], Option, Some, None, Bool, true, false, Result, Ok, Err, codes, option_map}
-use Rattle.tp_cli_files.specs.FaultLines.{fault_line}
+use Rattle.tp_cli_files.specs.FaultLines.{line_of}
+use Rattle.tp_cli_files.specs.declared.faults.Part.TheVariants as parts
+use Rattle.tp_cli_files.specs.declared.faults.Fault.TheVariants as faults
 use Rattle.tp_cli_inputs.specs.JudgeLines.{judge_status, judge_text, judge_unread}
 use Rattle.tp_cli_run.specs.RunLines.{network_status, network_text}
 use Rattle.tp_cli_audit.specs.AuditLines.{stop_status, stop_text, stop_unread}
@@ -31,10 +33,10 @@ draw_status Write = 3
 abbrev pub draw_text : DrawWords → DrawStop → List ℕ
 draw_text w (Judging fault) = judge_text (plan_of w 0) fault
 draw_text w (Network fault) = network_text fault
-draw_text w Executive = fault_line (codes "run") (codes "1 memory")
+draw_text w Executive = line_of (faults.Memory parts.Run)
 draw_text w (Journal stop) = stop_text (journal_name w) stop
-draw_text w Memory = fault_line (codes "draw") (codes "1 memory")
-draw_text w Write = fault_line (codes "script") (codes "2 write")
+draw_text w Memory = line_of (faults.Memory parts.Draw)
+draw_text w Write = line_of faults.ScriptWrite
 
 -- a write that failed is counted
 abbrev pub draw_failures : {T : Type 0} → ℕ → Result T DrawStop → ℕ

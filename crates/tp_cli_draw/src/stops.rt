@@ -9,7 +9,7 @@ ghost use Rattle.tp_cli_draw.specs.Words.{plan_of};
 
 use crate::draw_words::plan_words;
 use tp_cli_audit::{AuditStop, audit_stop_line};
-use tp_cli_files::FaultLine;
+use tp_cli_files::{Fault, FaultLine, Part};
 use tp_cli_inputs::{DrawWords, JudgeFault, judge_line};
 use tp_cli_run::network_line;
 use tp_deorder::DeorderFault;
@@ -65,9 +65,9 @@ pub fn draw_line<'w>(stop: DrawStop, words: DrawWords<'w>) -> FaultLine<'w>
     match stop {
         DrawStop::Judging(fault) => plan_line(fault, words),
         DrawStop::Network(fault) => network_line(fault),
-        DrawStop::Executive => FaultLine::out_of_order("run", "1 memory"),
+        DrawStop::Executive => Fault::Memory(Part::Run).line(),
         DrawStop::Journal(stop) => journal_line(stop, words),
-        DrawStop::Memory => FaultLine::out_of_order("draw", "1 memory"),
-        DrawStop::Write => FaultLine::out_of_order("script", "2 write"),
+        DrawStop::Memory => Fault::Memory(Part::Draw).line(),
+        DrawStop::Write => Fault::ScriptWrite.line(),
     }
 }

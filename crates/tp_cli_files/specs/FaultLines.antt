@@ -5,6 +5,9 @@ use Rattle.tp_device.specs.Bytes.{AppendsPart}
 use Rattle.tp_cli_files.specs.declared.fault_lines.Detail.{Detail}
 use Rattle.tp_cli_files.specs.declared.fault_lines.Detail.TheVariants.{Nothing, Number, Line, Construct, Name}
 use Rattle.tp_cli_files.specs.declared.fault_lines.FaultLine.{FaultLine}
+use Rattle.tp_cli_files.specs.Faults.{row}
+use Rattle.tp_cli_files.specs.declared.faults.Fault.{Fault}
+use Rattle.tp_cli_files.specs.declared.faults.Fault.TheVariants.{ArgumentsWords}
 
 -- what stands behind the number and the word of a fault
 abbrev pub detail_text : Detail → List ℕ
@@ -14,27 +17,22 @@ detail_text (Line n) = codes " " ++ decimal n
 detail_text (Construct at what) = (codes " " ++ decimal at) ++ (codes " " ++ what.now)
 detail_text (Name name) = codes " " ++ name.now
 
--- the line of a fault of that part, with that number and word, and with this behind
-abbrev pub fault_line_with : List ℕ → List ℕ → List ℕ → List ℕ
-fault_line_with part words behind = ((codes "fault " ++ part) ++ (codes " " ++ words))
+-- the line of a fault, with this behind
+abbrev pub line_with : Fault → List ℕ → List ℕ
+line_with fault behind = ((codes "fault " ++ (row fault).part) ++ (codes " " ++ (row fault).words))
     ++ (behind ++ codes "\n")
 
--- the same with nothing behind
-abbrev pub fault_line : List ℕ → List ℕ → List ℕ
-fault_line part words = fault_line_with part words []
+-- with nothing behind
+abbrev pub line_of : Fault → List ℕ
+line_of fault = line_with fault []
 
 -- with a place behind, or the number of a line
-abbrev pub placed_line : List ℕ → List ℕ → ℕ → List ℕ
-placed_line part words at = fault_line_with part words (codes " " ++ decimal at)
-
--- with a place and what stands there
-abbrev pub construct_line : List ℕ → List ℕ → ℕ → List ℕ → List ℕ
-construct_line part words at what =
-    fault_line_with part words ((codes " " ++ decimal at) ++ (codes " " ++ what))
+abbrev pub line_at : Fault → ℕ → List ℕ
+line_at fault at = line_with fault (codes " " ++ decimal at)
 
 -- with a name
-abbrev pub named_line : List ℕ → List ℕ → List ℕ → List ℕ
-named_line part words name = fault_line_with part words (codes " " ++ name)
+abbrev pub line_named : Fault → List ℕ → List ℕ
+line_named fault name = line_with fault (codes " " ++ name)
 
 abbrev pub head_text : FaultLine → List ℕ
 head_text line = (codes "fault " ++ line.part.now) ++ (codes " " ++ line.words.now)
@@ -69,5 +67,5 @@ abbrev pub TellsRefusal : ℕ → ℕ → Option (List ℕ) → ℕ → Option (
 TellsRefusal status failures before failures-now now =
     TellsFault [] failures before failures-now now
     ⊎ ((status ≡ 2) × ((more : List ℕ)
-    × Tells (fault_line (codes "arguments") (codes "1 words") ++ more)
+    × Tells (line_of ArgumentsWords ++ more)
     failures before failures-now now))

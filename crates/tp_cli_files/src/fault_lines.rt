@@ -1,19 +1,15 @@
-//! The lines of faults, and the exit statuses that go with them.
+//! The lines of faults, and how they are written.
 
 ghost use Rattle.std.specs.Prelude.{◌≡◌, [], ◌++◌, codes, decimal};
 ghost use Rattle.tp_device.specs.Bytes.{Writes, failures_after};
-ghost use Rattle.tp_cli_files.specs.FaultLines.{Tells, TellsFault, construct_line, detail_text, fault_line, fault_line_with, fault_text, head_text, named_line, placed_line};
+ghost use Rattle.tp_cli_files.specs.FaultLines.{Tells, TellsFault, detail_text, fault_text, head_text, line_of, line_with};
+ghost use Rattle.tp_cli_files.specs.Faults.{row};
 ghost use Rattle.tp_cli_files.specs.FileFaults.{file_status, file_text};
 
+use crate::faults::{Fault, Part};
 use crate::files::FileFault;
 use itoa::Buffer;
 use tp_device::{Failed, Sink, push_all};
-
-/// The input is refused.
-pub const REFUSED: u8 = 2;
-
-/// Memory or a device is wanting.
-pub const OUT_OF_ORDER: u8 = 3;
 
 /// What stands behind the number and the word of a fault.
 #[derive(Clone, Copy)]
@@ -34,106 +30,41 @@ pub struct FaultLine<'w> {
     pub status: u8,
 }
 
-impl<'w> FaultLine<'w> {
-    /// The line of input that is refused.
-    pub fn refused(part: &'static str, words: &'static str) -> Self
-        ensures status { result.status ≡ REFUSED }
-        ensures text { fault_text result ≡ fault_line part.entry.now words.entry.now }
+impl Fault {
+    /// Its line, with nothing behind.
+    pub fn line(self) -> FaultLine<'static>
+        ensures status { result.status ≡ (row self).status }
+        ensures text { fault_text result ≡ line_of self }
     {
-        FaultLine {
-            part,
-            words,
-            detail: Detail::Nothing,
-            status: REFUSED,
-        }
+        self.with(Detail::Nothing)
     }
 
-    /// The line of memory or a device that is wanting.
-    pub fn out_of_order(part: &'static str, words: &'static str) -> Self
-        ensures status { result.status ≡ OUT_OF_ORDER }
-        ensures text { fault_text result ≡ fault_line part.entry.now words.entry.now }
+    /// Its line, with this behind.
+    pub fn with<'w>(self, detail: Detail<'w>) -> FaultLine<'w>
+        ensures status { result.status ≡ (row self).status }
+        ensures text { fault_text result ≡ line_with self (detail_text detail.entry) }
     {
-        FaultLine {
-            status: OUT_OF_ORDER,
-            ..FaultLine::refused(part, words)
-        }
-    }
-
-    /// The line of input that is refused, with something behind.
-    fn refused_with(part: &'static str, words: &'static str, detail: Detail<'w>) -> Self
-        ensures status { result.status ≡ REFUSED }
-        ensures text { fault_text result
-            ≡ fault_line_with part.entry.now words.entry.now (detail_text detail.entry) }
-    {
+        let (part, words, status) = self.row();
         FaultLine {
             part,
             words,
             detail,
-            status: REFUSED,
+            status,
         }
     }
+}
 
-    /// The line of what is refused at a place.
-    pub fn placed(part: &'static str, words: &'static str, at: u32) -> Self
-        ensures status { result.status ≡ REFUSED }
-        ensures text { fault_text result ≡ placed_line part.entry.now words.entry.now at }
-    {
-        FaultLine::refused_with(part, words, Detail::Number(at))
-    }
-
-    /// The line of a construct that is refused at a place.
-    pub fn of_construct(
-        part: &'static str,
-        words: &'static str,
-        at: u32,
-        what: &'static str,
-    ) -> Self
-        ensures status { result.status ≡ REFUSED }
-        ensures text { fault_text result
-            ≡ construct_line part.entry.now words.entry.now at what.entry.now }
-    {
-        FaultLine::refused_with(part, words, Detail::Construct(at, what))
-    }
-
-    /// The line of what is refused on a line of a text.
-    pub fn on_line(part: &'static str, words: &'static str, line: usize) -> Self
-        ensures status { result.status ≡ REFUSED }
-        ensures text { fault_text result ≡ placed_line part.entry.now words.entry.now line }
-    {
-        FaultLine::refused_with(part, words, Detail::Line(line))
-    }
-
-    /// The line of what is refused by its name.
-    pub fn named(part: &'static str, words: &'static str, name: &'w str) -> Self
-        ensures status { result.status ≡ REFUSED }
-        ensures text { fault_text result
-            ≡ named_line part.entry.now words.entry.now name.entry.now }
-    {
-        FaultLine::refused_with(part, words, Detail::Name(name))
-    }
-
-    /// The line of a file of that name that can't be read.
-    fn unread(name: &'w str) -> Self
-        ensures status { result.status ≡ OUT_OF_ORDER }
-        ensures text { fault_text result
-            ≡ named_line (codes "file") (codes "1 read") name.entry.now }
-    {
-        FaultLine {
-            status: OUT_OF_ORDER,
-            ..FaultLine::named("file", "1 read", name)
-        }
-    }
-
+impl<'w> FaultLine<'w> {
     /// The line of a file of that name that gave no text for a part of the input.
-    pub fn of_file(part: &'static str, fault: FileFault, name: &'w str) -> Self
+    pub fn of_file(part: Part, fault: FileFault, name: &'w str) -> Self
         ensures status { result.status ≡ file_status fault }
-        ensures text { fault_text result ≡ file_text part.entry.now fault name.entry.now }
+        ensures text { fault_text result ≡ file_text part fault name.entry.now }
     {
         match fault {
-            FileFault::Memory => FaultLine::out_of_order(part, "1 memory"),
-            FileFault::Read => FaultLine::unread(name),
-            FileFault::Utf8 => FaultLine::named("file", "2 utf8", name),
-            FileFault::TooLong => FaultLine::named("file", "3 too-long", name),
+            FileFault::Memory => Fault::Memory(part).line(),
+            FileFault::Read => Fault::FileRead.with(Detail::Name(name)),
+            FileFault::Utf8 => Fault::FileUtf8.with(Detail::Name(name)),
+            FileFault::TooLong => Fault::FileTooLong.with(Detail::Name(name)),
         }
     }
 

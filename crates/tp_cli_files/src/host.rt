@@ -9,6 +9,7 @@ ghost use Rattle.tp_cli_files.specs.FaultLines.{Tells, fault_text};
 ghost use Rattle.tp_cli_files.specs.Texts.{ReadsKept};
 
 use crate::fault_lines::{FaultLine, complain};
+use crate::faults::Fault;
 use crate::files::Files;
 use std::alloc::{AllocError, AllocFailed, Global};
 use std::cell::RefCell;
@@ -298,8 +299,8 @@ fn line_of_call(why: CallFault) -> FaultLine<'static>
     ensures text { fault_text result ≡ call_text why }
 {
     match why {
-        CallFault::Memory => FaultLine::out_of_order("arguments", "2 memory"),
-        CallFault::NotText => FaultLine::refused("arguments", "1 words"),
+        CallFault::Memory => Fault::ArgumentsMemory.line(),
+        CallFault::NotText => Fault::ArgumentsWords.line(),
     }
 }
 

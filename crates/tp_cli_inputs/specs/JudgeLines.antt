@@ -1,6 +1,6 @@
 -- The lines of faults of texts, tasks and plans, and their exit statuses: 3 where memory or a device is wanting, and
 -- else 2.
-use Rattle.std.specs.Prelude.{ℕ, List, Bool, false, codes}
+use Rattle.std.specs.Prelude.{ℕ, List, ◌++◌, Bool, false, codes, decimal}
 use Rattle.tp_text.specs.declared.fault.TextFault.{TextFault}
 use Rattle.tp_text.specs.declared.fault.TextFault.TheVariants as text_fault
 use Rattle.tp_syntax_ast.specs.declared.fault.LeftOutPart.{LeftOutPart}
@@ -14,7 +14,10 @@ use Rattle.tp_task.specs.declared.fault.GroundFault.TheVariants as ground_fault
 use Rattle.tp_happen.specs.tp_plan_text.declared.reading.PlanFault.{PlanFault}
 use Rattle.tp_happen.specs.tp_plan_text.declared.reading.PlanFault.TheVariants as plan_fault
 use Rattle.tp_cli_files.specs.Causes.{file_unread}
-use Rattle.tp_cli_files.specs.FaultLines.{construct_line, fault_line, named_line, placed_line}
+use Rattle.tp_cli_files.specs.FaultLines.{line_at, line_named, line_of, line_with}
+use Rattle.tp_cli_files.specs.declared.faults.Part.{Part}
+use Rattle.tp_cli_files.specs.declared.faults.Part.TheVariants as parts
+use Rattle.tp_cli_files.specs.declared.faults.Fault.TheVariants as faults
 use Rattle.tp_cli_files.specs.FileFaults.{file_status, file_text}
 use Rattle.tp_cli_files.specs.declared.files.FileFault.{FileFault}
 use Rattle.tp_cli_files.specs.declared.files.FileFault.TheVariants as file_fault
@@ -49,62 +52,61 @@ text_status text_fault.Memory = 3
 text_status _ = 2
 
 -- a text that is no tree, by the part of the input that it is
-abbrev pub text_text : List ℕ → TextFault → List ℕ
-text_text part text_fault.Memory = fault_line part (codes "2 text 1 memory")
-text_text part text_fault.TooLong = fault_line part (codes "2 text 2 too-long")
-text_text part (text_fault.BadByte at) = placed_line part (codes "2 text 3 bad-byte") at
-text_text part (text_fault.Unclosed at) = placed_line part (codes "2 text 4 unclosed") at
-text_text part (text_fault.Extra at) = placed_line part (codes "2 text 5 extra") at
-text_text part (text_fault.Depth at) = placed_line part (codes "2 text 6 depth") at
-text_text part text_fault.Empty = fault_line part (codes "2 text 7 empty")
+abbrev pub text_text : Part → TextFault → List ℕ
+text_text part text_fault.Memory = line_of (faults.TextMemory part)
+text_text part text_fault.TooLong = line_of (faults.TextTooLong part)
+text_text part (text_fault.BadByte at) = line_at (faults.TextBadByte part) at
+text_text part (text_fault.Unclosed at) = line_at (faults.TextUnclosed part) at
+text_text part (text_fault.Extra at) = line_at (faults.TextExtra part) at
+text_text part (text_fault.Depth at) = line_at (faults.TextDepth part) at
+text_text part text_fault.Empty = line_of (faults.TextEmpty part)
 
 abbrev pub syntax_status : SyntaxFault → ℕ
 syntax_status syntax_fault.Memory = 3
 syntax_status (syntax_fault.Text fault) = text_status fault
 syntax_status _ = 2
 
-abbrev pub syntax_text : List ℕ → SyntaxFault → List ℕ
-syntax_text part syntax_fault.Memory = fault_line part (codes "1 memory")
+abbrev pub syntax_text : Part → SyntaxFault → List ℕ
+syntax_text part syntax_fault.Memory = line_of (faults.Memory part)
 syntax_text part (syntax_fault.Text fault) = text_text part fault
-syntax_text part (syntax_fault.Shape at) = placed_line part (codes "3 shape") at
-syntax_text part (syntax_fault.Unknown at) = placed_line part (codes "4 unknown") at
-syntax_text part (syntax_fault.Twice at) = placed_line part (codes "5 twice") at
-syntax_text part (syntax_fault.Types at) = placed_line part (codes "6 types") at
-syntax_text part (syntax_fault.LeftOut at what) = construct_line part (codes "7 left-out") at
-    (left_out_text what)
+syntax_text part (syntax_fault.Shape at) = line_at (faults.Shape part) at
+syntax_text part (syntax_fault.Unknown at) = line_at (faults.Unknown part) at
+syntax_text part (syntax_fault.Twice at) = line_at (faults.Twice part) at
+syntax_text part (syntax_fault.Types at) = line_at (faults.Types part) at
+syntax_text part (syntax_fault.LeftOut at what) = line_with (faults.LeftOut part)
+    ((codes " " ++ decimal at) ++ (codes " " ++ left_out_text what))
 
 -- the file of a domain or a problem: one that is too long is a text that is
 abbrev pub source_status : FileFault → ℕ
 source_status fault = file_status fault
 
-abbrev pub source_text : List ℕ → FileFault → List ℕ → List ℕ
+abbrev pub source_text : Part → FileFault → List ℕ → List ℕ
 source_text part file_fault.Memory name = file_text part file_fault.Memory name
 source_text part file_fault.Read name = file_text part file_fault.Read name
 source_text part file_fault.Utf8 name = file_text part file_fault.Utf8 name
-source_text part file_fault.TooLong name = fault_line part (codes "2 text 2 too-long")
+source_text part file_fault.TooLong name = line_of (faults.TextTooLong part)
 
 abbrev pub ground_status : GroundFault → ℕ
 ground_status ground_fault.Memory = 3
 ground_status _ = 2
 
 abbrev pub ground_text : GroundFault → List ℕ
-ground_text ground_fault.Memory = fault_line (codes "ground") (codes "1 memory")
-ground_text (ground_fault.TooMany kind) = named_line (codes "ground") (codes "2 too-many")
-    (kind_text kind)
-ground_text ground_fault.Range = fault_line (codes "ground") (codes "3 range")
+ground_text ground_fault.Memory = line_of (faults.Memory parts.Ground)
+ground_text (ground_fault.TooMany kind) = line_named faults.GroundTooMany (kind_text kind)
+ground_text ground_fault.Range = line_of faults.GroundRange
 
 abbrev pub plan_status : PlanFault → ℕ
 plan_status plan_fault.Memory = 3
 plan_status _ = 2
 
 abbrev pub plan_text : PlanFault → List ℕ
-plan_text plan_fault.Memory = fault_line (codes "plan") (codes "1 memory")
-plan_text (plan_fault.Line line) = placed_line (codes "plan") (codes "2 line") line
-plan_text (plan_fault.NoAction line) = placed_line (codes "plan") (codes "3 no-action") line
-plan_text (plan_fault.NotTicks line) = placed_line (codes "plan") (codes "4 not-ticks") line
-plan_text plan_fault.TooMany = fault_line (codes "plan") (codes "5 too-many")
-plan_text (plan_fault.NoDuration line) = placed_line (codes "plan") (codes "6 no-duration") line
-plan_text (plan_fault.Horizon line) = placed_line (codes "plan") (codes "7 horizon") line
+plan_text plan_fault.Memory = line_of (faults.Memory parts.Plan)
+plan_text (plan_fault.Line line) = line_at faults.PlanLine line
+plan_text (plan_fault.NoAction line) = line_at faults.PlanNoAction line
+plan_text (plan_fault.NotTicks line) = line_at faults.PlanNotTicks line
+plan_text plan_fault.TooMany = line_of faults.PlanTooMany
+plan_text (plan_fault.NoDuration line) = line_at faults.PlanNoDuration line
+plan_text (plan_fault.Horizon line) = line_at faults.PlanHorizon line
 
 abbrev pub judge_status : JudgeFault → ℕ
 judge_status (DomainFile fault) = source_status fault
@@ -118,15 +120,15 @@ judge_status Memory = 3
 judge_status Range = 2
 
 abbrev pub judge_text : PlanWords → JudgeFault → List ℕ
-judge_text w (DomainFile fault) = source_text (codes "domain") fault w.domain.now
-judge_text w (Domain fault) = syntax_text (codes "domain") fault
-judge_text w (ProblemFile fault) = source_text (codes "problem") fault w.problem.now
-judge_text w (Problem fault) = syntax_text (codes "problem") fault
+judge_text w (DomainFile fault) = source_text parts.Domain fault w.domain.now
+judge_text w (Domain fault) = syntax_text parts.Domain fault
+judge_text w (ProblemFile fault) = source_text parts.Problem fault w.problem.now
+judge_text w (Problem fault) = syntax_text parts.Problem fault
 judge_text w (Task fault) = ground_text fault
-judge_text w (PlanFile fault) = file_text (codes "plan") fault w.plan.now
+judge_text w (PlanFile fault) = file_text parts.Plan fault w.plan.now
 judge_text w (Plan fault) = plan_text fault
-judge_text w Memory = fault_line (codes "check") (codes "1 memory")
-judge_text w Range = fault_line (codes "check") (codes "2 range")
+judge_text w Memory = line_of (faults.Memory parts.Check)
+judge_text w Range = line_of faults.CheckRange
 
 -- a file can't be read
 abbrev pub judge_unread : JudgeFault → Bool

@@ -6,7 +6,7 @@ ghost use Rattle.tp_cli_inputs.specs.JudgeLines.{ground_status, ground_text, jud
 
 use crate::judging::JudgeFault;
 use crate::plan_words::PlanWords;
-use tp_cli_files::{FaultLine, FileFault};
+use tp_cli_files::{Detail, Fault, FaultLine, FileFault, Part};
 use tp_happen::PlanFault;
 use tp_syntax::{LeftOutPart, SyntaxFault};
 use tp_task::{GroundFault, TooManyKind};
@@ -47,46 +47,46 @@ fn left_out_word(what: LeftOutPart) -> &'static str
 }
 
 /// The line of a domain or problem whose text is no tree.
-fn text_line(part: &'static str, fault: TextFault) -> FaultLine<'static>
+fn text_line(part: Part, fault: TextFault) -> FaultLine<'static>
     ensures status { result.status ≡ text_status fault }
-    ensures text { fault_text result ≡ text_text part.entry.now fault }
+    ensures text { fault_text result ≡ text_text part fault }
 {
     match fault {
-        TextFault::Memory => FaultLine::out_of_order(part, "2 text 1 memory"),
-        TextFault::TooLong => FaultLine::refused(part, "2 text 2 too-long"),
-        TextFault::BadByte(at) => FaultLine::placed(part, "2 text 3 bad-byte", at),
-        TextFault::Unclosed(at) => FaultLine::placed(part, "2 text 4 unclosed", at),
-        TextFault::Extra(at) => FaultLine::placed(part, "2 text 5 extra", at),
-        TextFault::Depth(at) => FaultLine::placed(part, "2 text 6 depth", at),
-        TextFault::Empty => FaultLine::refused(part, "2 text 7 empty"),
+        TextFault::Memory => Fault::TextMemory(part).line(),
+        TextFault::TooLong => Fault::TextTooLong(part).line(),
+        TextFault::BadByte(at) => Fault::TextBadByte(part).with(Detail::Number(at)),
+        TextFault::Unclosed(at) => Fault::TextUnclosed(part).with(Detail::Number(at)),
+        TextFault::Extra(at) => Fault::TextExtra(part).with(Detail::Number(at)),
+        TextFault::Depth(at) => Fault::TextDepth(part).with(Detail::Number(at)),
+        TextFault::Empty => Fault::TextEmpty(part).line(),
     }
 }
 
 /// The line of a text that is no domain or no problem, by the part of the input that it is.
-pub fn syntax_line(part: &'static str, fault: SyntaxFault) -> FaultLine<'static>
+pub fn syntax_line(part: Part, fault: SyntaxFault) -> FaultLine<'static>
     ensures status { result.status ≡ syntax_status fault }
-    ensures text { fault_text result ≡ syntax_text part.entry.now fault }
+    ensures text { fault_text result ≡ syntax_text part fault }
 {
     match fault {
-        SyntaxFault::Memory => FaultLine::out_of_order(part, "1 memory"),
+        SyntaxFault::Memory => Fault::Memory(part).line(),
         SyntaxFault::Text(text) => text_line(part, text),
-        SyntaxFault::Shape(at) => FaultLine::placed(part, "3 shape", at),
-        SyntaxFault::Unknown(at) => FaultLine::placed(part, "4 unknown", at),
-        SyntaxFault::Twice(at) => FaultLine::placed(part, "5 twice", at),
-        SyntaxFault::Types(at) => FaultLine::placed(part, "6 types", at),
+        SyntaxFault::Shape(at) => Fault::Shape(part).with(Detail::Number(at)),
+        SyntaxFault::Unknown(at) => Fault::Unknown(part).with(Detail::Number(at)),
+        SyntaxFault::Twice(at) => Fault::Twice(part).with(Detail::Number(at)),
+        SyntaxFault::Types(at) => Fault::Types(part).with(Detail::Number(at)),
         SyntaxFault::LeftOut(at, what) => {
-            FaultLine::of_construct(part, "7 left-out", at, left_out_word(what))
+            Fault::LeftOut(part).with(Detail::Construct(at, left_out_word(what)))
         }
     }
 }
 
 /// The line of the file of a domain or a problem that gave no text.
-pub fn file_line<'w>(part: &'static str, fault: FileFault, name: &'w str) -> FaultLine<'w>
+pub fn file_line<'w>(part: Part, fault: FileFault, name: &'w str) -> FaultLine<'w>
     ensures status { result.status ≡ source_status fault }
-    ensures text { fault_text result ≡ source_text part.entry.now fault name.entry.now }
+    ensures text { fault_text result ≡ source_text part fault name.entry.now }
 {
     match fault {
-        FileFault::TooLong => FaultLine::refused(part, "2 text 2 too-long"),
+        FileFault::TooLong => Fault::TextTooLong(part).line(),
         other => FaultLine::of_file(part, other, name),
     }
 }
@@ -97,9 +97,9 @@ pub fn task_line(fault: GroundFault) -> FaultLine<'static>
     ensures text { fault_text result ≡ ground_text fault }
 {
     match fault {
-        GroundFault::Memory => FaultLine::out_of_order("ground", "1 memory"),
-        GroundFault::TooMany(kind) => FaultLine::named("ground", "2 too-many", kind_word(kind)),
-        GroundFault::Range => FaultLine::refused("ground", "3 range"),
+        GroundFault::Memory => Fault::Memory(Part::Ground).line(),
+        GroundFault::TooMany(kind) => Fault::GroundTooMany.with(Detail::Name(kind_word(kind))),
+        GroundFault::Range => Fault::GroundRange.line(),
     }
 }
 
@@ -109,13 +109,13 @@ pub fn plan_line(fault: PlanFault) -> FaultLine<'static>
     ensures text { fault_text result ≡ plan_text fault }
 {
     match fault {
-        PlanFault::Memory => FaultLine::out_of_order("plan", "1 memory"),
-        PlanFault::Line(line) => FaultLine::on_line("plan", "2 line", line),
-        PlanFault::NoAction(line) => FaultLine::on_line("plan", "3 no-action", line),
-        PlanFault::NotTicks(line) => FaultLine::on_line("plan", "4 not-ticks", line),
-        PlanFault::TooMany => FaultLine::refused("plan", "5 too-many"),
-        PlanFault::NoDuration(line) => FaultLine::on_line("plan", "6 no-duration", line),
-        PlanFault::Horizon(line) => FaultLine::on_line("plan", "7 horizon", line),
+        PlanFault::Memory => Fault::Memory(Part::Plan).line(),
+        PlanFault::Line(line) => Fault::PlanLine.with(Detail::Line(line)),
+        PlanFault::NoAction(line) => Fault::PlanNoAction.with(Detail::Line(line)),
+        PlanFault::NotTicks(line) => Fault::PlanNotTicks.with(Detail::Line(line)),
+        PlanFault::TooMany => Fault::PlanTooMany.line(),
+        PlanFault::NoDuration(line) => Fault::PlanNoDuration.with(Detail::Line(line)),
+        PlanFault::Horizon(line) => Fault::PlanHorizon.with(Detail::Line(line)),
     }
 }
 
@@ -125,14 +125,14 @@ pub fn judge_line<'w>(fault: JudgeFault, words: PlanWords<'w>) -> FaultLine<'w>
     ensures text { fault_text result ≡ judge_text words.entry fault }
 {
     match fault {
-        JudgeFault::DomainFile(fault) => file_line("domain", fault, words.domain),
-        JudgeFault::Domain(fault) => syntax_line("domain", fault),
-        JudgeFault::ProblemFile(fault) => file_line("problem", fault, words.problem),
-        JudgeFault::Problem(fault) => syntax_line("problem", fault),
+        JudgeFault::DomainFile(fault) => file_line(Part::Domain, fault, words.domain),
+        JudgeFault::Domain(fault) => syntax_line(Part::Domain, fault),
+        JudgeFault::ProblemFile(fault) => file_line(Part::Problem, fault, words.problem),
+        JudgeFault::Problem(fault) => syntax_line(Part::Problem, fault),
         JudgeFault::Task(fault) => task_line(fault),
-        JudgeFault::PlanFile(fault) => FaultLine::of_file("plan", fault, words.plan),
+        JudgeFault::PlanFile(fault) => FaultLine::of_file(Part::Plan, fault, words.plan),
         JudgeFault::Plan(fault) => plan_line(fault),
-        JudgeFault::Memory => FaultLine::out_of_order("check", "1 memory"),
-        JudgeFault::Range => FaultLine::refused("check", "2 range"),
+        JudgeFault::Memory => Fault::Memory(Part::Check).line(),
+        JudgeFault::Range => Fault::CheckRange.line(),
     }
 }

@@ -1,5 +1,5 @@
 -- What is told where a search stops without an answer, and why it stops.
-use Rattle.std.specs.Prelude.{◌≡◌, ℕ, ◌+◌, List, Option, Bool, false, Result, Ok, Err, codes}
+use Rattle.std.specs.Prelude.{◌≡◌, ℕ, ◌+◌, List, Option, Bool, false, Result, Ok, Err}
 use Rattle.tp_bounds.specs.RunLimits.{greatest_limits}
 use Rattle.tp_syntax.specs.Domains.{Domain}
 use Rattle.tp_syntax.specs.Problems.{Problem}
@@ -7,7 +7,9 @@ use Rattle.tp_task.specs.declared.task.Task.{Task}
 use Rattle.tp_search.specs.tp_search_frontier.declared.fault.SearchFault.{SearchFault}
 use Rattle.tp_search.specs.tp_search_frontier.declared.fault.SearchFault.TheVariants as search
 use Rattle.tp_cli_files.specs.Causes.{raised}
-use Rattle.tp_cli_files.specs.FaultLines.{Tells, fault_line}
+use Rattle.tp_cli_files.specs.FaultLines.{Tells, line_of}
+use Rattle.tp_cli_files.specs.declared.faults.Part.TheVariants as parts
+use Rattle.tp_cli_files.specs.declared.faults.Fault.TheVariants as faults
 use Rattle.tp_cli_inputs.specs.JudgeLines.{judge_status, judge_text, judge_unread}
 use Rattle.tp_cli_inputs.specs.Named.{AreNamed}
 use Rattle.tp_cli_plan.specs.SearchTasks.{ExplainsTask}
@@ -21,8 +23,8 @@ search_status search.Memory = 3
 search_status search.Range = 2
 
 abbrev pub search_text : SearchFault → List ℕ
-search_text search.Memory = fault_line (codes "search") (codes "1 memory")
-search_text search.Range = fault_line (codes "search") (codes "2 range")
+search_text search.Memory = line_of (faults.Memory parts.Search)
+search_text search.Range = line_of faults.SearchRange
 
 abbrev pub stop_status : SearchStop → ℕ
 stop_status (Files fault) = judge_status fault
@@ -32,7 +34,7 @@ stop_status Write = 3
 abbrev pub stop_text : SearchWords → SearchStop → List ℕ
 stop_text w (Files fault) = judge_text (task_words w) fault
 stop_text w (Searching fault) = search_text fault
-stop_text w Write = fault_line (codes "script") (codes "2 write")
+stop_text w Write = line_of faults.ScriptWrite
 
 -- a write that failed is counted
 abbrev pub stop_failures : {T : Type 0} → ℕ → Result T SearchStop → ℕ

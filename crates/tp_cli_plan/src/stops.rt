@@ -5,7 +5,7 @@ ghost use Rattle.tp_cli_files.specs.FaultLines.{fault_text};
 ghost use Rattle.tp_cli_plan.specs.SearchStops.{search_status, search_text, stop_status, stop_text};
 
 use crate::search_words::SearchWords;
-use tp_cli_files::FaultLine;
+use tp_cli_files::{Fault, FaultLine, Part};
 use tp_cli_inputs::{JudgeFault, judge_line};
 use tp_search::SearchFault;
 
@@ -26,8 +26,8 @@ fn search_line(fault: SearchFault) -> FaultLine<'static>
     ensures text { fault_text result ≡ search_text fault }
 {
     match fault {
-        SearchFault::Memory => FaultLine::out_of_order("search", "1 memory"),
-        SearchFault::Range => FaultLine::refused("search", "2 range"),
+        SearchFault::Memory => Fault::Memory(Part::Search).line(),
+        SearchFault::Range => Fault::SearchRange.line(),
     }
 }
 
@@ -39,6 +39,6 @@ pub(crate) fn stop_line<'w>(stop: SearchStop, words: SearchWords<'w>) -> FaultLi
     match stop {
         SearchStop::Files(fault) => judge_line(fault, words.task_words()),
         SearchStop::Searching(fault) => search_line(fault),
-        SearchStop::Write => FaultLine::out_of_order("script", "2 write"),
+        SearchStop::Write => Fault::ScriptWrite.line(),
     }
 }

@@ -1,6 +1,8 @@
 -- The lines of what stops a run of a plan that goes on, and their exit statuses.
-use Rattle.std.specs.Prelude.{ℕ, ◌+◌, List, Bool, false, Result, Ok, Err, codes}
-use Rattle.tp_cli_files.specs.FaultLines.{fault_line}
+use Rattle.std.specs.Prelude.{ℕ, ◌+◌, List, Bool, false, Result, Ok, Err}
+use Rattle.tp_cli_files.specs.FaultLines.{line_of}
+use Rattle.tp_cli_files.specs.declared.faults.Part.TheVariants as parts
+use Rattle.tp_cli_files.specs.declared.faults.Fault.TheVariants as faults
 use Rattle.tp_cli_inputs.specs.JudgeLines.{judge_status, judge_text, judge_unread}
 use Rattle.tp_cli_inputs.specs.declared.plan_words.PlanWords.{PlanWords}
 use Rattle.tp_cli_run.specs.RunLines.{network_status, network_text}
@@ -19,8 +21,8 @@ abbrev pub run_resume_text : PlanWords → List ℕ → RunResumeStop → List �
 run_resume_text w old (Judging fault) = judge_text w fault
 run_resume_text w old (Network fault) = network_text fault
 run_resume_text w old (Resuming stop) = resume_text old stop
-run_resume_text w old Telling = fault_line (codes "run") (codes "1 memory")
-run_resume_text w old Write = fault_line (codes "script") (codes "2 write")
+run_resume_text w old Telling = line_of (faults.Memory parts.Run)
+run_resume_text w old Write = line_of faults.ScriptWrite
 
 -- a read of the input that failed is counted
 abbrev pub run_resume_reads : {T : Type 0} → ℕ → Result T RunResumeStop → ℕ

@@ -1,6 +1,7 @@
 -- The lines of what stops a run that goes on, and their exit statuses.
-use Rattle.std.specs.Prelude.{ℕ, ◌+◌, List, Bool, true, false, Result, Ok, Err, codes}
-use Rattle.tp_cli_files.specs.FaultLines.{fault_line}
+use Rattle.std.specs.Prelude.{ℕ, ◌+◌, List, Bool, true, false, Result, Ok, Err}
+use Rattle.tp_cli_files.specs.FaultLines.{line_of}
+use Rattle.tp_cli_files.specs.declared.faults.Fault.TheVariants as faults
 use Rattle.tp_journal_pairs.specs.declared.faults.JournalFault.TheVariants as journal
 use Rattle.tp_cli_audit.specs.AuditLines.{stop_status, stop_text, stop_unread}
 use Rattle.tp_cli_audit.specs.Audits.{say_failures}
@@ -17,8 +18,8 @@ resume_status (Journaling fault) = journal_status fault
 -- the line, where this is the name of the file of the journal that the run goes on from
 abbrev pub resume_text : List ℕ → ResumeStop → List ℕ
 resume_text old (Auditing stop) = stop_text old stop
-resume_text old Lines = fault_line (codes "script") (codes "3 memory")
-resume_text old Making = fault_line (codes "script") (codes "6 log")
+resume_text old Lines = line_of faults.ScriptMemory
+resume_text old Making = line_of faults.ScriptLog
 resume_text old (Journaling fault) = journal_text fault
 
 -- a read of the input that failed is counted

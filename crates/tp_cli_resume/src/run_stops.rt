@@ -5,7 +5,7 @@ ghost use Rattle.tp_cli_files.specs.FaultLines.{fault_text};
 ghost use Rattle.tp_cli_resume.specs.RunStops.{run_resume_status, run_resume_text};
 
 use crate::stops::{ResumeStop, resume_line};
-use tp_cli_files::FaultLine;
+use tp_cli_files::{Fault, FaultLine, Part};
 use tp_cli_inputs::{JudgeFault, PlanWords, judge_line};
 use tp_cli_run::network_line;
 use tp_deorder::DeorderFault;
@@ -34,7 +34,7 @@ pub fn run_resume_line<'w>(stop: RunResumeStop, words: PlanWords<'w>, old: &'w s
         RunResumeStop::Judging(fault) => judge_line(fault, words),
         RunResumeStop::Network(fault) => network_line(fault),
         RunResumeStop::Resuming(stop) => resume_line(stop, old),
-        RunResumeStop::Telling => FaultLine::out_of_order("run", "1 memory"),
-        RunResumeStop::Write => FaultLine::out_of_order("script", "2 write"),
+        RunResumeStop::Telling => Fault::Memory(Part::Run).line(),
+        RunResumeStop::Write => Fault::ScriptWrite.line(),
     }
 }

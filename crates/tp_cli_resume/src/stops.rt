@@ -6,7 +6,7 @@ ghost use Rattle.tp_cli_resume.specs.Stops.{resume_status, resume_text};
 
 use tp_cli_audit::{AuditStop, audit_stop_line};
 use tp_cli_bare::journal_line;
-use tp_cli_files::FaultLine;
+use tp_cli_files::{Fault, FaultLine};
 use tp_journal_pairs::JournalFault;
 
 /// Why a run did not go on to its end.
@@ -29,8 +29,8 @@ pub fn resume_line<'w>(stop: ResumeStop, old: &'w str) -> FaultLine<'w>
 {
     match stop {
         ResumeStop::Auditing(stop) => audit_stop_line(stop, old),
-        ResumeStop::Lines => FaultLine::out_of_order("script", "3 memory"),
-        ResumeStop::Making => FaultLine::out_of_order("script", "6 log"),
+        ResumeStop::Lines => Fault::ScriptMemory.line(),
+        ResumeStop::Making => Fault::ScriptLog.line(),
         ResumeStop::Journaling(fault) => journal_line(fault),
     }
 }

@@ -1,8 +1,10 @@
 -- The lines of what stops the run of a plan, and their exit statuses.
-use Rattle.std.specs.Prelude.{ℕ, ◌+◌, List, Bool, false, Result, Ok, Err, codes}
+use Rattle.std.specs.Prelude.{ℕ, ◌+◌, List, Bool, false, Result, Ok, Err}
 use Rattle.tp_deorder.specs.declared.DeorderFault.{DeorderFault}
 use Rattle.tp_deorder.specs.declared.DeorderFault.TheVariants as deorder
-use Rattle.tp_cli_files.specs.FaultLines.{fault_line}
+use Rattle.tp_cli_files.specs.FaultLines.{line_of}
+use Rattle.tp_cli_files.specs.declared.faults.Part.TheVariants as parts
+use Rattle.tp_cli_files.specs.declared.faults.Fault.TheVariants as faults
 use Rattle.tp_cli_bare.specs.Bare.{bare_failures, bare_read_failures}
 use Rattle.tp_cli_bare.specs.ServeLines.{bare_status, bare_text}
 use Rattle.tp_cli_inputs.specs.JudgeLines.{judge_status, judge_text, judge_unread}
@@ -15,8 +17,8 @@ network_status deorder.Memory = 3
 network_status deorder.TooMany = 2
 
 abbrev pub network_text : DeorderFault → List ℕ
-network_text deorder.Memory = fault_line (codes "net") (codes "1 memory")
-network_text deorder.TooMany = fault_line (codes "net") (codes "2 too-many")
+network_text deorder.Memory = line_of (faults.Memory parts.Net)
+network_text deorder.TooMany = line_of faults.NetTooMany
 
 abbrev pub run_status : RunStop → ℕ
 run_status (Judging fault) = judge_status fault
@@ -28,7 +30,7 @@ abbrev pub run_text : PlanWords → RunStop → List ℕ
 run_text w (Judging fault) = judge_text w fault
 run_text w (Network fault) = network_text fault
 run_text w (Answering fault) = bare_text fault
-run_text w Write = fault_line (codes "script") (codes "2 write")
+run_text w Write = line_of faults.ScriptWrite
 
 -- a read of the input that failed is counted
 abbrev pub run_reads : {T : Type 0} → ℕ → Result T RunStop → ℕ

@@ -1,6 +1,8 @@
 -- The lines of what stops the run of a plan whose journal is kept, and their exit statuses.
-use Rattle.std.specs.Prelude.{ℕ, ◌+◌, List, Bool, false, Result, Ok, Err, codes}
-use Rattle.tp_cli_files.specs.FaultLines.{fault_line}
+use Rattle.std.specs.Prelude.{ℕ, ◌+◌, List, Bool, false, Result, Ok, Err}
+use Rattle.tp_cli_files.specs.FaultLines.{line_of}
+use Rattle.tp_cli_files.specs.declared.faults.Part.TheVariants as parts
+use Rattle.tp_cli_files.specs.declared.faults.Fault.TheVariants as faults
 use Rattle.tp_cli_bare.specs.JournalLines.{stop_status, stop_text, stop_unlogged}
 use Rattle.tp_cli_bare.specs.Logged.{input_failures, output_failures}
 use Rattle.tp_cli_inputs.specs.JudgeLines.{judge_status, judge_text, judge_unread}
@@ -20,8 +22,8 @@ abbrev pub run_stop_text : PlanWords → RunJournalStop → List ℕ
 run_stop_text w (Judging fault) = judge_text w fault
 run_stop_text w (Network fault) = network_text fault
 run_stop_text w (Journal stop) = stop_text stop
-run_stop_text w Telling = fault_line (codes "run") (codes "1 memory")
-run_stop_text w Write = fault_line (codes "script") (codes "2 write")
+run_stop_text w Telling = line_of (faults.Memory parts.Run)
+run_stop_text w Write = line_of faults.ScriptWrite
 
 -- a read of the input that failed is counted
 abbrev pub run_stop_reads : {T : Type 0} → ℕ → Result T RunJournalStop → ℕ

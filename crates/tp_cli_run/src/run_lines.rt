@@ -5,7 +5,7 @@ ghost use Rattle.tp_cli_files.specs.FaultLines.{fault_text};
 ghost use Rattle.tp_cli_run.specs.RunLines.{network_status, network_text, run_status, run_text};
 
 use tp_cli_bare::{BareFault, bare_line};
-use tp_cli_files::FaultLine;
+use tp_cli_files::{Fault, FaultLine, Part};
 use tp_cli_inputs::{JudgeFault, PlanWords, judge_line};
 use tp_deorder::DeorderFault;
 
@@ -29,8 +29,8 @@ pub fn network_line(fault: DeorderFault) -> FaultLine<'static>
     ensures text { fault_text result ≡ network_text fault }
 {
     match fault {
-        DeorderFault::Memory => FaultLine::out_of_order("net", "1 memory"),
-        DeorderFault::TooMany => FaultLine::refused("net", "2 too-many"),
+        DeorderFault::Memory => Fault::Memory(Part::Net).line(),
+        DeorderFault::TooMany => Fault::NetTooMany.line(),
     }
 }
 
@@ -43,6 +43,6 @@ pub fn run_line<'w>(stop: RunStop, words: PlanWords<'w>) -> FaultLine<'w>
         RunStop::Judging(fault) => judge_line(fault, words),
         RunStop::Network(fault) => network_line(fault),
         RunStop::Answering(fault) => bare_line(fault),
-        RunStop::Write => FaultLine::out_of_order("script", "2 write"),
+        RunStop::Write => Fault::ScriptWrite.line(),
     }
 }

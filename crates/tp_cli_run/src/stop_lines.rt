@@ -6,7 +6,7 @@ ghost use Rattle.tp_cli_run.specs.StopLines.{run_stop_status, run_stop_text};
 
 use crate::network_line;
 use tp_cli_bare::{JournalStop, journal_stop_line};
-use tp_cli_files::FaultLine;
+use tp_cli_files::{Fault, FaultLine, Part};
 use tp_cli_inputs::{JudgeFault, PlanWords, judge_line};
 use tp_deorder::DeorderFault;
 
@@ -35,7 +35,7 @@ pub fn run_stop_line<'w>(stop: RunJournalStop, words: PlanWords<'w>) -> FaultLin
         RunJournalStop::Judging(fault) => judge_line(fault, words),
         RunJournalStop::Network(fault) => network_line(fault),
         RunJournalStop::Journal(stop) => journal_stop_line(stop),
-        RunJournalStop::Telling => FaultLine::out_of_order("run", "1 memory"),
-        RunJournalStop::Write => FaultLine::out_of_order("script", "2 write"),
+        RunJournalStop::Telling => Fault::Memory(Part::Run).line(),
+        RunJournalStop::Write => Fault::ScriptWrite.line(),
     }
 }

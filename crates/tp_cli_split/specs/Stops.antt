@@ -1,7 +1,9 @@
 -- The lines of what stops a split, and their exit statuses.
-use Rattle.std.specs.Prelude.{ℕ, ◌+◌, List, Bool, false, Result, Ok, Err, codes}
+use Rattle.std.specs.Prelude.{ℕ, ◌+◌, List, Bool, false, Result, Ok, Err}
 use Rattle.tp_cli_files.specs.Causes.{file_unread}
-use Rattle.tp_cli_files.specs.FaultLines.{fault_line, placed_line}
+use Rattle.tp_cli_files.specs.FaultLines.{line_at, line_of}
+use Rattle.tp_cli_files.specs.declared.faults.Part.TheVariants as parts
+use Rattle.tp_cli_files.specs.declared.faults.Fault.TheVariants as faults
 use Rattle.tp_cli_files.specs.FileFaults.{file_status, file_text}
 use Rattle.tp_cli_inputs.specs.JudgeLines.{judge_status, judge_text, judge_unread}
 use Rattle.tp_cli_inputs.specs.declared.plan_words.PlanWords.{PlanWords}
@@ -25,14 +27,14 @@ split_status Write = 3
 abbrev pub split_text : PlanWords → List ℕ → SplitStop → List ℕ
 split_text w owners (Judging fault) = judge_text w fault
 split_text w owners (Network fault) = network_text fault
-split_text w owners Setting = fault_line (codes "run") (codes "1 memory")
-split_text w owners (OwnersFile fault) = file_text (codes "split") fault owners
-split_text w owners (Owner e) = placed_line (codes "split") (codes "2 owner") e
-split_text w owners (Agent a) = placed_line (codes "split") (codes "4 agent") a
-split_text w owners TooMany = fault_line (codes "split") (codes "5 too-many")
-split_text w owners Memory = fault_line (codes "split") (codes "1 memory")
-split_text w owners Conflict = fault_line (codes "split") (codes "3 conflict")
-split_text w owners Write = fault_line (codes "script") (codes "2 write")
+split_text w owners Setting = line_of (faults.Memory parts.Run)
+split_text w owners (OwnersFile fault) = file_text parts.Split fault owners
+split_text w owners (Owner e) = line_at faults.SplitOwner e
+split_text w owners (Agent a) = line_at faults.SplitAgent a
+split_text w owners TooMany = line_of faults.SplitTooMany
+split_text w owners Memory = line_of (faults.Memory parts.Split)
+split_text w owners Conflict = line_of faults.SplitConflict
+split_text w owners Write = line_of faults.ScriptWrite
 
 -- a write that failed is counted
 abbrev pub split_failures : {T : Type 0} → ℕ → Result T SplitStop → ℕ

@@ -4,7 +4,7 @@ ghost use Rattle.std.specs.Prelude.{◌≡◌};
 ghost use Rattle.tp_cli_files.specs.FaultLines.{fault_text};
 ghost use Rattle.tp_cli_split.specs.Stops.{split_status, split_text};
 
-use tp_cli_files::{FaultLine, FileFault};
+use tp_cli_files::{Detail, Fault, FaultLine, FileFault, Part};
 use tp_cli_inputs::{JudgeFault, PlanWords, judge_line};
 use tp_cli_run::network_line;
 use tp_deorder::DeorderFault;
@@ -43,13 +43,13 @@ pub fn split_line<'w>(stop: SplitStop, words: PlanWords<'w>, owners: &'w str) ->
     match stop {
         SplitStop::Judging(fault) => judge_line(fault, words),
         SplitStop::Network(fault) => network_line(fault),
-        SplitStop::Setting => FaultLine::out_of_order("run", "1 memory"),
-        SplitStop::OwnersFile(fault) => FaultLine::of_file("split", fault, owners),
-        SplitStop::Owner(e) => FaultLine::placed("split", "2 owner", e),
-        SplitStop::Agent(agent) => FaultLine::placed("split", "4 agent", agent),
-        SplitStop::TooMany => FaultLine::refused("split", "5 too-many"),
-        SplitStop::Memory => FaultLine::out_of_order("split", "1 memory"),
-        SplitStop::Conflict => FaultLine::refused("split", "3 conflict"),
-        SplitStop::Write => FaultLine::out_of_order("script", "2 write"),
+        SplitStop::Setting => Fault::Memory(Part::Run).line(),
+        SplitStop::OwnersFile(fault) => FaultLine::of_file(Part::Split, fault, owners),
+        SplitStop::Owner(e) => Fault::SplitOwner.with(Detail::Number(e)),
+        SplitStop::Agent(agent) => Fault::SplitAgent.with(Detail::Number(agent)),
+        SplitStop::TooMany => Fault::SplitTooMany.line(),
+        SplitStop::Memory => Fault::Memory(Part::Split).line(),
+        SplitStop::Conflict => Fault::SplitConflict.line(),
+        SplitStop::Write => Fault::ScriptWrite.line(),
     }
 }
