@@ -8,5 +8,4 @@ pub mod Judging
 pub mod Lawful
 pub mod AtPlace
 pub mod Ordered
-pub mod Untouched
 pub mod OnMentions

@@ -17,7 +17,6 @@ use Rattle.tp_task.proofs.Picked.{picked_no}
 use Rattle.tp_task.proofs.Numbered.{in_left, in_right}
 use Rattle.tp_happen.specs.Bounded.{StaysSmall}
 use Rattle.tp_validate.specs.Tick.{after_of, of_events}
-use Rattle.tp_validate.specs.Touched.{invariant_holds}
 use Rattle.tp_validate.proofs.Numbers.{numbered}
 use Rattle.tp_validate.proofs.OneHappening.{happens}
 
@@ -38,17 +37,17 @@ first_none name (Some x) other h = absurd (cc)
 first_none name None other h = (refl, h)
 
 -- a test behind another
-pub behind : (a q : Bool) → (a ≡ true → q ≡ false) → (a && q) ≡ false
+behind : (a q : Bool) → (a ≡ true → q ≡ false) → (a && q) ≡ false
 behind a q h = ⊎_elim (λ e. and_right a q (h e)) (λ e. and_left a q e) (cases_Bool a)
 
-pub passed : (a q : Bool) → (a && q) ≡ false → a ≡ true → q ≡ false
+passed : (a q : Bool) → (a && q) ≡ false → a ≡ true → q ≡ false
 passed a q h e = ⊎_elim (λ z. absurd (true≢false (sym e ∙ z))) (λ z. z) (and_cases a q h)
 
 none_here : (m : ℕ) (es : List Placed) → ((e : Placed) → In e es → e.moment ≢ m) → at m es ≡ []
 none_here m [] f = refl
 none_here m (e ∷ es) f = picked_no (λ x. x.moment == m) (λ x. x.timed.ticks) e es (ne_eqb e.moment m (f e (inl refl))) ∙ none_here m es (λ x i. f x (inr i))
 
-pub and_true : (x : Bool) → (x && true) ≡ x
+and_true : (x : Bool) → (x && true) ≡ x
 and_true true = refl
 and_true false = refl
 
@@ -102,11 +101,6 @@ module _ (scale : ℕ) (initial : State) (plan : List Planned) where
       let o = first_none fault.OverAll (position_from (λ (q : Planned). is_broken (s (suc j)) j q q.body) 0 plan) None h.1 in
       let unbroken : is_broken (s (suc j)) j p (Durative x y c) ≡ false = ap (is_broken (s (suc j)) j p) (sym e) ∙ none_passes (λ (q : Planned). is_broken (s (suc j)) j q q.body) 0 plan o.0 p i in
       not-false (holds (s (suc j)) c) (passed (nat_lt j (p.moment + p.duration)) _ (passed (nat_le p.moment j) _ unbroken (le-leb p.moment j (omega arith))) (lt-ltb j (p.moment + p.duration) (omega arith)))
-
-  -- and so does the invariant of each step that runs past the moment from before it
-  pub invariant_held : (k : ℕ) → ((j : ℕ) → suc j ≡ k → fault_at scale initial plan j ≡ None) → (p : Planned) → In p plan → p.moment < k → k < p.moment + p.duration → (b : Body) → p.body ≡ b → invariant_holds (s k) b ≡ true
-  invariant_held k prev p i low high (Instant x) e = refl
-  invariant_held k prev p i low high (Durative x y c) e = held k p i x y c e prev (λ q. absurd (omega arith)) (omega arith) high
 
   invariant_stays : (k : ℕ) → Still k → ((j : ℕ) → suc j ≡ k → fault_at scale initial plan j ≡ None) → (p : Planned) → In p plan → (b : Body) → p.body ≡ b → is_broken (s (suc k)) k p b ≡ false
   invariant_stays k f prev p i (Instant x) e = refl

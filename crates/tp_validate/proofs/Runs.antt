@@ -1,5 +1,5 @@
 -- How a run goes from one moment with events to the next, and what it comes to.
-use Rattle.std.proofs.Common.{◌≡◌, ◌≢◌, ℕ, zero, suc, ◌+◌, ◌-◌, ◌≤◌, ◌<◌, true, List, [], ◌∷◌, length, get_or, Option, Some, None, ⊎_elim, inl, inr, refl, sym, ap, ap₂, ◌∙◌, subst, arith, add-one, All}
+use Rattle.std.proofs.Common.{◌≡◌, ◌≢◌, ℕ, suc, ◌+◌, ◌-◌, ◌≤◌, ◌<◌, true, List, [], ◌∷◌, length, get_or, Option, Some, None, ⊎_elim, inl, inr, refl, sym, ap, ap₂, ◌∙◌, subst, arith, add-one, All}
 use Rattle.std.specs.List.{list_all}
 use Rattle.std.proofs.lemmas.Bool.{cases_lt}
 use Rattle.tp_task.specs.declared.task.Task.{Task}
@@ -16,18 +16,12 @@ use Rattle.tp_validate.specs.Tick.{after_of, fault_from, PassesAt}
 use Rattle.tp_validate.specs.Found.{GoesOn}
 use Rattle.tp_validate.specs.Reached.{Reached, IsCovered, PassesBy}
 use Rattle.tp_validate.proofs.Planning.{fits, events_fit}
-use Rattle.tp_validate.specs.Touched.{invariant_holds, HoldsSoFar}
-use Rattle.tp_validate.proofs.Quiet.{same_until, quiet_until, small_at_rest, invariant_held}
+use Rattle.tp_validate.proofs.Quiet.{same_until, quiet_until, small_at_rest}
 
 index_in : {X : Type 0} (xs : List X) (x : X) → In x xs → (k : ℕ) × (k < length xs) × (get_or xs k x ≡ x)
 index_in [] x i = absurd i
 index_in (y ∷ ys) x (inl e) = (0, omega arith, sym e)
 index_in (y ∷ ys) x (inr i) = let w = index_in ys x i in (suc w.0, omega (arith, w.1), w.2)
-
-in_at : {X : Type 0} (xs : List X) (k : ℕ) (d : X) → k < length xs → In (get_or xs k d) xs
-in_at [] k d l = absurd (omega arith)
-in_at (x ∷ xs) zero d l = inl refl
-in_at (x ∷ xs) (suc k) d l = inr (in_at xs k d (omega arith))
 
 -- what holds of all elements holds of each
 pub all_in : {X : Type 0} (P : X → Type 0) (xs : List X) → All P xs → (x : X) → In x xs → P x
@@ -77,12 +71,6 @@ module _ (t : Task) (ps : List Planned) where
     -- the state is that before the moment
     pub state_here : state_of st ≡ s m
     state_here = u.state_is
-
-    -- and the invariants of the steps that run past the moment from before it hold there
-    pub held_here : HoldsSoFar (state_of st) m ps
-    held_here k d b low high =
-        let p : Planned = get_or ps k d in
-        subst (λ z. invariant_holds z p.body ≡ true) (sym u.state_is) (invariant_held (scale_of t) (begin t) ps m (λ j e. u.clear j (omega arith)) p (in_at ps k d b) low high p.body refl)
 
     fault_is : fault_from st.scale (state_of st) m ps es ≡ fault m
     fault_is = ap₂ (λ k z. fault_from k z m ps es) r.task.scale u.state_is

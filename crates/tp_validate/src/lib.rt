@@ -4,13 +4,11 @@
 //! - `agenda`: the events in the order of their moments, tick after tick
 //! - `durations`: whether a step's duration is lawful
 //! - `mentions`: what the invariants of steps mention
-//! - `changes`: what the events of a tick change
 //! - `ticks`: what happens at one tick, or the first fault there
 //! - `verdicts`: tick after tick, `validate`
 #![tactic(auto)]
 
 mod agenda;
-mod changes;
 mod durations;
 mod mentions;
 mod placing;

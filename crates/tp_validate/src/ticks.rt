@@ -1,18 +1,15 @@
 //! What happens at one tick of a plan, or the first fault there.
 
-ghost use Rattle.std.specs.Prelude.{◌≡◌, ◌<◌, ◌≤◌, ◌==◌, ◌||◌, true, false, length, map, IfOk, IfErr, IfSome, OnErr};
+ghost use Rattle.std.specs.Prelude.{◌≡◌, ◌<◌, ◌≤◌, true, false, length, IfOk, IfErr, IfSome, OnErr};
 ghost use Rattle.std.specs.List.{list_all, position_from};
-ghost use Rattle.tp_task.specs.Happens.{Happens};
 ghost use Rattle.tp_task.specs.Valid.{events, at};
 ghost use Rattle.tp_task.specs.Verdict as verdict;
 ghost use Rattle.tp_happen.specs.Stored.{state_of, fits_in};
 ghost use Rattle.tp_happen.specs.Fault.{OnRange};
 ghost use Rattle.tp_validate.specs.Places.{here, numbers};
 ghost use Rattle.tp_validate.specs.Tick.{renumbered, invariant_small, PassesAt};
-ghost use Rattle.tp_validate.specs.Touched.{HoldsSoFar, AreKept, mentions_any};
 ghost use Rattle.tp_validate.specs.Found.{told, IsFound};
 
-use crate::changes::{Changes, changes_of};
 use crate::durations::first_unlawful;
 use crate::placing::{PlacedEvent, PlannedStep, event_refs, number_at};
 use std::alloc::Global;
@@ -71,47 +68,12 @@ fn is_broken(after: &State, step: &PlannedStep<'_>, moment: u32) -> Result<bool,
     }
 }
 
-// Whether a step's invariant may have changed at a moment: it starts there, or its invariant
-// mentions something that changes.
-fn is_in_question(step: &PlannedStep<'_>, changes: &Changes, moment: u32) -> bool
-    ensures { result ≡ (step.now.moment == moment
-        || mentions_any step.now.body changes.now.atoms.items changes.now.fluents.items) }
-{
-    step.tick == moment || step.mentions_any(&changes.atoms, &changes.fluents)
-}
-
-// The same as `is_broken`, where the invariant of a step that is not in question is known to be
-// kept.
-fn is_now_broken(
-    after: &State,
-    step: &PlannedStep<'_>,
-    in_question: bool,
-    moment: u32,
-) -> Result<bool, Range>
-    requires { in_question ≡ false
-        → verdict.is_broken (state_of after.now) moment step.now step.now.body ≡ false }
-    ensures ok { IfOk result
-        (λ r. r ≡ verdict.is_broken (state_of after.now) moment step.now step.now.body) }
-    ensures err { OnErr result
-        (invariant_small (state_of after.now) moment step.now step.now.body ≡ false) }
-{
-    if in_question {
-        is_broken(after, step, moment)
-    } else {
-        Ok(false)
-    }
-}
-
-// The first step whose invariant runs past a moment and does not hold after it. Only the invariants
-// of steps that start there, or that mention something that changes, are evaluated.
+// The first step whose invariant runs past a moment and does not hold after it.
 fn first_broken(
     after: &State,
     steps: &[PlannedStep<'_>],
-    changes: &Changes,
     moment: u32,
 ) -> Result<Option<usize>, Range>
-    requires { AreKept (state_of after.now)
-        moment changes.now.atoms.items changes.now.fluents.items steps.now }
     ensures ok { IfOk result (λ r. r
         ≡ position_from (λ p. verdict.is_broken (state_of after.now) moment p p.body) 0 steps.now) }
     ensures place { IfOk result (λ r. IfSome r (λ i. i < length steps.now)) }
@@ -119,42 +81,14 @@ fn first_broken(
         (list_all (λ p. invariant_small (state_of after.now) moment p p.body) steps.now ≡ false) }
 {
     for (i, step) in steps.iter().enumerate() {
-        let in_question = is_in_question(step, changes, moment);
-        if is_now_broken(after, step, in_question, moment)? {
+        if is_broken(after, step, moment)? {
             return Ok(Some(i));
         }
     }
     Ok(None)
 }
 
-// The first step whose invariant runs past a moment and does not hold after its events. Of the
-// steps that ran before it, only the invariants that mention something that the events change are
-// evaluated.
-fn broken_after(
-    alloc: Global,
-    before: &State,
-    after: &State,
-    steps: &[PlannedStep<'_>],
-    there: &[PlacedEvent<'_>],
-    moment: u32,
-) -> Result<Option<usize>, ApplyFault>
-    requires held { HoldsSoFar (state_of before.now) moment steps.now }
-    requires happened { Happens before.now.scale
-        (state_of before.now) (map (λ e. e.timed) there.now) (state_of after.now) }
-    ensures ok { IfOk result (λ r. r
-        ≡ position_from (λ p. verdict.is_broken (state_of after.now) moment p p.body) 0 steps.now) }
-    ensures place { IfOk result (λ r. IfSome r (λ i. i < length steps.now)) }
-    ensures err { IfErr result (λ e. OnRange e
-        (list_all (λ p. invariant_small (state_of after.now) moment p p.body) steps.now ≡ false)) }
-{
-    let changes = changes_of(alloc, before, after, there)?;
-    let broken = first_broken(after, steps, &changes, moment)?;
-    Ok(broken)
-}
-
-/// What the events of a tick make of the state before it, or the first fault there. Of the steps
-/// that ran before it, it evaluates the invariants of those that mention something that an event
-/// there changes.
+/// What the events of a tick make of the state before it, or the first fault there.
 pub fn judge_tick(
     alloc: Global,
     state: &State,
@@ -163,7 +97,6 @@ pub fn judge_tick(
     moment: u32,
 ) -> Result<Judged, ApplyFault>
     requires few { length steps.now ≤ 512 }
-    requires held { HoldsSoFar (state_of state.now) moment steps.now }
     requires there { there.now ≡ here moment (events steps.now) }
     requires fits { list_all (fits_in state.now) (at moment (events steps.now)) ≡ true }
     ensures found { IfOk result (IsFound state.now moment steps.now (events steps.now)) }
@@ -176,7 +109,7 @@ pub fn judge_tick(
     let happening = event_refs(alloc, there)?;
     match apply(alloc, state, &happening)? {
         Outcome::Fails(place, why) => Ok(Judged::Faulty(named(there, place, why))),
-        Outcome::Next(next) => match broken_after(alloc, state, &next, steps, there, moment)? {
+        Outcome::Next(next) => match first_broken(&next, steps, moment)? {
             Some(step) => Ok(Judged::Faulty(Fault::OverAll(step as u16))),
             None => Ok(Judged::Next(next)),
         },

@@ -181,8 +181,7 @@ fn judge(alloc: Global, task: &Task, steps: &[Step]) -> Result<Option<(u32, Faul
 
 /// Judges a plan of a task: whether it is valid, or its first fault by tick, kind and number. Takes
 /// the time of each mention of an event and of an invariant once, and at each tick that of a copy
-/// of the state, and of the invariants that begin there or that mention something that an event
-/// there changes.
+/// of the state, and of the invariants of the steps that run past it.
 pub fn validate<'t>(alloc: Global, task: &'t Task, plan: Plan) -> Result<Verdict<'t>, ValidateFault>
     requires { IsOfTask task.now plan }
     ensures verdict { IfOk result (IsVerdict task.now plan) }

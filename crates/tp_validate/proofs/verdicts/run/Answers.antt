@@ -4,16 +4,11 @@ use Rattle.tp_task.specs.Valid.{events}
 use Rattle.tp_happen.proofs.Answered.{on_range_weaker}
 use Rattle.tp_validate.specs.Found.{IsFound, told}
 use Rattle.tp_validate.proofs.Ordered.{turn_after, rest_after, within_after, all_done_after}
-use Rattle.tp_validate.proofs.Runs.{before, held_here, fault_here, passes_here, fits_here, next}
+use Rattle.tp_validate.proofs.Runs.{before, fault_here, passes_here, fits_here, next}
 use Rattle.tp_validate.proofs.verdicts.run.Goals as goal
 
 pub judge_tick-requires-clause-there : goal.judge_tick-requires-clause-there
 judge_tick-requires-clause-there c = (turn_after (events c.args.steps.now) c.loop-tick.from c.args.agenda.now c.loop-tick.done c.loop-tick.invariant.left c.in-Some.tick.moment c.in-Some.tick.there.now c.in-Some.ensures).found
-
-pub judge_tick-requires-clause-held : goal.judge_tick-requires-clause-held
-judge_tick-requires-clause-held c =
-    let t = turn_after (events c.args.steps.now) c.loop-tick.from c.args.agenda.now c.loop-tick.done c.loop-tick.invariant.left c.in-Some.tick.moment c.in-Some.tick.there.now c.in-Some.ensures in
-    held_here c.args.task.now c.args.steps.now c.loop-tick.from c.in-Some.tick.moment c.loop-tick.state c.loop-tick.invariant.reached t.onward t.covered
 
 pub judge_tick-requires-clause-fits : goal.judge_tick-requires-clause-fits
 judge_tick-requires-clause-fits c =
