@@ -365,6 +365,16 @@ class Split(Case):
         text += "".join(f"interval {looks + e} 1 1000000\n" for e in range(takes))
         self.comes_to(told(text), SPLIT, files_of(GATE, plan, looks * "0 " + takes * "1 "))
 
+    # 255 of the 65,535 bounds join the last event with another agent's, and each of these others gets two for its interval
+    def test_a_part_of_65790_bounds(self):
+        if is_refusing():
+            self.skipTest("too many requests for memory")
+        plan = 255 * "0: (look)\n" + 257 * "1: (take)\n"
+        files = files_of(GATE, plan, 511 * "0 " + "1")
+        self.comes_to(told_by("fault split 5 too-many\n", 2), f"{SPLIT} --part 0", files)
+        wanted = told("network 1 1000000\nadd 0 o -1\nadd o 0 1000000\n")
+        self.comes_to(wanted, f"{SPLIT} --part 1", files)
+
     def test_parts_of_agents(self):
         """The lines of a part are its events' count, the bounds of `net` that join no other event, and the intervals."""
         for example, plan, owners, words, text in INTERVALS:

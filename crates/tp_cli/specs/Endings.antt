@@ -19,7 +19,7 @@ use Rattle.tp_cli.specs.CallFiles.{CallFiles, journal_file}
 use Rattle.tp_cli_run.specs.LogFile.{AskedOnce}
 use Rattle.tp_cli.specs.Checks.{EndsCheck}
 use Rattle.tp_cli.specs.Networks.{EndsNet}
-use Rattle.tp_cli_args.specs.Requests.{AsksFor}
+use Rattle.tp_cli_args.specs.Requests.{AsksFor, AsksForNothing}
 use Rattle.tp_cli_args.specs.declared.requests.Request.{Request}
 use Rattle.tp_cli_args.specs.declared.requests.Request.TheVariants.{Bare, BareLog, BareResume, Check, Net, Run, RunLog, RunResume, Plan, Audit, PlanAudit, Split, Part, Draw, Help}
 
@@ -32,15 +32,16 @@ pub record LacksMemory (status : ℕ) (held held-now : Option (List ℕ)) (outpu
   pub same : output-now ≡ output
   pub told : Tells (line_of faults.ArgumentsMemory) failures before failures-now now
 
--- the words are refused
-pub record RefusesWords (status : ℕ) (held held-now : Option (List ℕ)) (output output-now : ℕ)
-    (failures : ℕ) (before : Option (List ℕ)) (failures-now : ℕ)
+-- the words are refused: they ask for nothing that can be done
+pub record RefusesWords (words : List (List ℕ)) (status : ℕ) (held held-now : Option (List ℕ))
+    (output output-now : ℕ) (failures : ℕ) (before : Option (List ℕ)) (failures-now : ℕ)
     (now : Option (List ℕ)) : Type 0 where
   pub two : status ≡ 2
   pub kept : held-now ≡ held
   pub same : output-now ≡ output
   pub more : List ℕ
   pub told : Tells (line_of faults.ArgumentsWords ++ more) failures before failures-now now
+  pub nothing : AsksForNothing words
 
 -- help was not written whole
 pub record StopsHelp (text : List ℕ) (status : ℕ) (held held-now : Option (List ℕ)) (failures : ℕ)
@@ -120,7 +121,7 @@ abbrev pub EndsCall : List (List ℕ) → CallFiles → Option (List ℕ) → �
     → Option (List ℕ) → Option (List ℕ) → ℕ → ℕ → ℕ → Option (List ℕ) → ℕ → Option (List ℕ) → Type 0
 EndsCall words files input reads reads-now status held held-now output output-now failures before
     failures-now now =
-    RefusesWords status held held-now output output-now failures before failures-now now
+    RefusesWords words status held held-now output output-now failures before failures-now now
     ⊎ (LacksMemory status held held-now output output-now failures before failures-now now
     ⊎ ((request : Request) × AsksFor words request × EndsRequest request files input reads reads-now
     status held held-now output output-now failures before failures-now now))

@@ -10,7 +10,7 @@ ghost use Rattle.tp_cli.specs.Done.{AnswersNo, DoesPart, DoesWhatIsAsked};
 ghost use Rattle.tp_cli.specs.Journaled.{AsksForNoJournal};
 ghost use Rattle.tp_cli_files.specs.FaultLines.{TellsFault, TellsRefusal};
 ghost use Rattle.tp_cli.specs.Endings.{EndsBare, EndsCall, RefusesWords, StopsHelp};
-ghost use Rattle.tp_cli_args.specs.Requests.{AsksFor, AsksForNoCommands, AsksForNoProgress};
+ghost use Rattle.tp_cli_args.specs.Requests.{AsksFor, AsksForNoCommands, AsksForNoProgress, AsksForNothing};
 
 use crate::check::run_check;
 use crate::desk::Desk;
@@ -165,7 +165,8 @@ fn show<O: Sink, F: Sink>(text: &str, output: &mut O, faults: &mut F) -> u8
 /// the exit status.
 fn refuse_words<F: Sink>(text: Option<String>, faults: &mut F) -> u8
     ensures status { result ≡ REFUSED }
-    ensures refused { (held : Option (List ℕ)) → (n : ℕ) → RefusesWords result held held n n
+    ensures refused { (words : List (List ℕ)) → AsksForNothing words
+        → (held : Option (List ℕ)) → (n : ℕ) → RefusesWords words result held held n n
         (F.failures faults.old) (F.held faults.old) (F.failures faults.new) (F.held faults.new) }
     ensures fault { TellsRefusal result (F.failures faults.old) (F.held faults.old)
         (F.failures faults.new) (F.held faults.new) }

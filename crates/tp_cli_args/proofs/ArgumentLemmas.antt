@@ -1,6 +1,6 @@
 -- What a parse asks for.
-use Rattle.std.proofs.Common.{◌≡◌, ◌∙◌, ◌⊎◌, ap, ap₂, arith, ℕ, ◌∷◌, inl, inr, refl, sym, subst, List, [], Option, Some, None, true, false, codes}
-use Rattle.std.specs.Prelude.{Result, Ok, Err, Bool, if◌then◌else◌, ◌||◌, nat_eq}
+use Rattle.std.proofs.Common.{◌≡◌, ◌∙◌, ◌⊎◌, ◌<◌, ◌^◌, ap, ap₂, arith, ℕ, ◌∷◌, inl, inr, refl, sym, subst, List, [], Option, Some, None, true, false, codes}
+use Rattle.std.specs.Prelude.{Result, Ok, Err, Bool, if◌then◌else◌, ◌||◌, nat_eq, unwrap_or, IfNone}
 use Rattle.clap.specs.Words.{FailsBy, IsAmong, ReadsOne, Row, Text, fault_of, first_of, one_of, one_text, is_simple, is_simple_and_free, kind_of, rows_of, subcommand_of}
 use Rattle.clap.specs.declared.error.Error.{Error}
 use Rattle.clap.specs.declared.error.kind.ErrorKind.{ErrorKind}
@@ -8,10 +8,13 @@ use Rattle.clap.specs.declared.error.kind.ErrorKind.TheVariants.{DisplayHelp, Di
 use Rattle.clap.specs.declared.parser.matches.ArgMatches.{ArgMatches}
 use Rattle.clap.proofs.OnLiterals.{clap_on_literals}
 use Rattle.clap.proofs.WalkLemmas.{one_text-rows}
-use Rattle.std.specs.Str.Parse.{digits_value, without_leading_plus}
+use Rattle.clap.proofs.ValueTestLemmas.{accepts-Accepts}
+use Rattle.clap.specs.ValueTests.{accepts}
+use Rattle.clap.specs.declared.builder.value_parser.ValueParser.TheVariants as vp
+use Rattle.std.specs.Str.Parse.{IsNumeral, ParsesBool, digits_value, without_leading_plus}
 use Rattle.clap.specs.declared.parser.matches.Found.{Found}
 use Rattle.tp_cli_args.specs.Commands.{tempo_app}
-use Rattle.tp_cli_args.specs.Requests.{AskForOneThing, AsksBy, AsksFor, AsksSearch, IsFlag, IsSearchWords, IsUntil, NamesBare, Spells, TellsText, command_name, domain_name, journal_name, order_command, owners_name, resume_name}
+use Rattle.tp_cli_args.specs.Requests.{AskForOneThing, AsksBy, AsksFor, AsksSearch, CallsForText, IsFlag, IsSearchWords, IsUntil, NamesBare, Spells, TellsText, command_name, domain_name, journal_name, order_command, owners_name, resume_name}
 use Rattle.tp_text.specs.Scales.{scale_ticks}
 use Rattle.tp_text.specs.declared.number.Scale.TheVariants.{One}
 use Rattle.std.specs.Option.{option_map}
@@ -105,13 +108,69 @@ pub bare_resume_words : (w : PlanWords) → w.plan.now ≡ codes "l" → w.domai
 unfolding clap_on_literals
 bare_resume_words w log old = (refl, (_, refl, ap Some (sym log), ap Some (sym old)))
 
+-- a text that is a numeral spells its number
+pub spelled : (t : Text) (n : ℕ) → accepts false (vp.Unsigned 0 4294967295) t ≡ true → digits_value 10 (without_leading_plus t) ≡ n → Spells (Some t) n
+spelled t n ok value =
+    record { numeral = t; given = refl; digits = (accepts-Accepts false (vp.Unsigned 0 4294967295) t ok).0; value = value }
+
+-- a text spells one number
+pub spells_one : (text : Option Text) (m n : ℕ) → Spells text m → Spells text n → m ≡ n
+spells_one text m n one other =
+    let same : one.numeral ≡ other.numeral = cc (one.given, other.given) in
+    sym one.value ∙ (ap (λ t. digits_value 10 (without_leading_plus t)) same ∙ other.value)
+
+-- words that call for help or for the version alone
+pub help_words : CallsForText (fault_of tempo_app (codes "--help" ∷ []))
+unfolding clap_on_literals
+help_words = inl refl
+
+pub version_words : CallsForText (fault_of tempo_app (codes "--version" ∷ []))
+unfolding clap_on_literals
+version_words = inr refl
+
+pub command_help_words : CallsForText (fault_of tempo_app (codes "check" ∷ codes "--help" ∷ []))
+unfolding clap_on_literals
+command_help_words = inl refl
+
 -- a number that was read is spelled by its text
-pub number_spelled : {E : Type 0} (gives : List ℕ → Result ℕ E → Type 0) (f : Found) (id : Text) (n : ℕ) (o : Option (List ℕ)) → one_text f id ≡ o → (one_text f id ≡ None → Some n ≡ None) → ((t : List ℕ) → one_text f id ≡ Some t → ReadsOne gives t (Some n)) → ((t : List ℕ) → gives t (Ok n) → n ≡ digits_value 10 (without_leading_plus t)) → Spells (one_of id (rows_of f)) n
+pub number_spelled : {E : Type 0} (gives : List ℕ → Result ℕ E → Type 0) (f : Found) (id : Text) (n : ℕ) (o : Option (List ℕ)) → one_text f id ≡ o → (one_text f id ≡ None → Some n ≡ None) → ((t : List ℕ) → one_text f id ≡ Some t → ReadsOne gives t (Some n)) → ((t : List ℕ) → gives t (Ok n) → IsNumeral 10 (without_leading_plus t) × (n ≡ digits_value 10 (without_leading_plus t))) → Spells (one_of id (rows_of f)) n
 number_spelled gives f id n None e none value told =
     let no : Some n ≡ None = none e in
     cc
 number_spelled gives f id n (Some t) e none value told =
-    (t, sym (one_text-rows f id) ∙ e, sym (told t (value t e)))
+    let read = told t (value t e) in
+    record { numeral = t; given = sym (one_text-rows f id) ∙ e; digits = read.0; value = sym read.1 }
+
+-- and where none was read, its text spells none of the type
+pub none_spelled : {E : Type 0} (gives : List ℕ → Result ℕ E → Type 0) (f : Found) (id : Text) (r : Option ℕ) → ((t : List ℕ) → one_text f id ≡ Some t → ReadsOne gives t r) → ((t : List ℕ) (e : E) → gives t (Err e) → IsNumeral 10 (without_leading_plus t) × (digits_value 10 (without_leading_plus t) < 2 ^ 32) → ⊥) → IfNone r ((n : ℕ) → n < 2 ^ 32 → Spells (one_of id (rows_of f)) n → ⊥)
+none_spelled gives f id (Some n) value told = tt
+none_spelled gives f id None value told =
+    λ n small s.
+    let read = value s.numeral (one_text-rows f id ∙ s.given) in
+    told s.numeral read.0 read.1 (s.digits, subst (λ v. v < 2 ^ 32) (sym s.value) small)
+
+-- a flag is given where `true` was read
+flag_text : (E : Type 0) (f : Found) (id : Text) (r : Option Bool) (o : Option Text) → one_text f id ≡ o → (one_text f id ≡ None → r ≡ None) → ((t : Text) → one_text f id ≡ Some t → ReadsOne {E = E} ParsesBool t r) → unwrap_or r false ≡ true → one_text f id ≡ Some (codes "true")
+flag_text E f id (Some true) (Some t) e none value given = e ∙ ap Some (value t e)
+flag_text E f id (Some true) None e none value given =
+    let no = none e in
+    cc
+flag_text E f id (Some false) o e none value given = cc
+flag_text E f id None o e none value given = cc
+
+text_flag : (E : Type 0) (f : Found) (id : Text) (r : Option Bool) → ((t : Text) → one_text f id ≡ Some t → ReadsOne {E = E} ParsesBool t r) → one_text f id ≡ Some (codes "true") → unwrap_or r false ≡ true
+text_flag E f id (Some true) value is = refl
+text_flag E f id (Some false) value is =
+    let e : codes "true" ≡ codes "false" = value _ is in
+    let no : 116 ≡ 102 = ap first_letter e in
+    absurd (omega (arith, no))
+text_flag E f id None value is = absurd ((value _ is).1.0 refl)
+
+pub is_flag : (E : Type 0) (f : Found) (id : Text) (r : Option Bool) → (one_text f id ≡ None → r ≡ None) → ((t : Text) → one_text f id ≡ Some t → ReadsOne {E = E} ParsesBool t r) → IsFlag (one_of id (rows_of f)) (unwrap_or r false)
+is_flag E f id r none value = (
+  (λ given. sym (one_text-rows f id) ∙ flag_text E f id r _ refl none value given),
+  (λ is. text_flag E f id r value (one_text-rows f id ∙ is)),
+)
 
 -- the three files, the scale that is given, and the horizon where none is given
 pub check_words : (w : PlanWords) → w.domain.now ≡ codes "d" → w.problem.now ≡ codes "p" → w.plan.now ≡ codes "l" → scale_ticks w.scale ≡ 1000 → w.horizon ≡ 1000000 → AsksFor (codes "check" ∷ codes "d" ∷ codes "p" ∷ codes "--scale" ∷ codes "1000" ∷ codes "l" ∷ []) (Check w)
@@ -125,8 +184,8 @@ check_words w domain problem plan scale horizon = (
       domain = ap Some (sym domain);
       problem = ap Some (sym problem);
       plan = ap Some (sym plan);
-      scale = (codes "1000", refl, sym scale);
-      horizon = (codes "1000000", refl, sym horizon);
+      scale = spelled (codes "1000") _ refl (sym scale);
+      horizon = spelled (codes "1000000") _ refl (sym horizon);
       within = omega (arith, horizon);
     },
   ),
@@ -144,8 +203,8 @@ net_words w domain problem plan scale horizon = (
       domain = ap Some (sym domain);
       problem = ap Some (sym problem);
       plan = ap Some (sym plan);
-      scale = (codes "1000", refl, sym scale);
-      horizon = (codes "1000000", refl, sym horizon);
+      scale = spelled (codes "1000") _ refl (sym scale);
+      horizon = spelled (codes "1000000") _ refl (sym horizon);
       within = omega (arith, horizon);
     },
   ),
@@ -164,8 +223,8 @@ run_words w domain problem plan scale horizon = (
       domain = ap Some (sym domain);
       problem = ap Some (sym problem);
       plan = ap Some (sym plan);
-      scale = (codes "1000", refl, sym scale);
-      horizon = (codes "1000000", refl, sym horizon);
+      scale = spelled (codes "1000") _ refl (sym scale);
+      horizon = spelled (codes "1000000") _ refl (sym horizon);
       within = omega (arith, horizon);
     },
   ),
@@ -185,8 +244,8 @@ run_log_words w v domain problem plan scale horizon log = (
       domain = ap Some (sym domain);
       problem = ap Some (sym problem);
       plan = ap Some (sym plan);
-      scale = (codes "1", refl, sym scale);
-      horizon = (codes "1000000", refl, sym horizon);
+      scale = spelled (codes "1") _ refl (sym scale);
+      horizon = spelled (codes "1000000") _ refl (sym horizon);
       within = omega (arith, horizon);
     },
   ),
@@ -206,8 +265,8 @@ run_resume_words w v domain problem plan scale horizon log old = (
       domain = ap Some (sym domain);
       problem = ap Some (sym problem);
       plan = ap Some (sym plan);
-      scale = (codes "1", refl, sym scale);
-      horizon = (codes "1000000", refl, sym horizon);
+      scale = spelled (codes "1") _ refl (sym scale);
+      horizon = spelled (codes "1000000") _ refl (sym horizon);
       within = omega (arith, horizon);
     },
   ),
@@ -226,8 +285,8 @@ plan_audit_words w v domain problem plan scale horizon log = (
       domain = ap Some (sym domain);
       problem = ap Some (sym problem);
       plan = ap Some (sym plan);
-      scale = (codes "1000", refl, sym scale);
-      horizon = (codes "1000000", refl, sym horizon);
+      scale = spelled (codes "1000") _ refl (sym scale);
+      horizon = spelled (codes "1000000") _ refl (sym horizon);
       within = omega (arith, horizon);
     },
   ),
@@ -247,8 +306,8 @@ split_words w v domain problem plan scale horizon owners = (
       domain = ap Some (sym domain);
       problem = ap Some (sym problem);
       plan = ap Some (sym plan);
-      scale = (codes "1000", refl, sym scale);
-      horizon = (codes "1000000", refl, sym horizon);
+      scale = spelled (codes "1000") _ refl (sym scale);
+      horizon = spelled (codes "1000000") _ refl (sym horizon);
       within = omega (arith, horizon);
     },
   ),
@@ -263,13 +322,14 @@ part_words w v domain problem plan scale horizon owners = (
     _,
     refl,
     ap Some (sym owners),
-    (codes "2", refl, refl),
+    spelled (codes "2") _ refl refl,
+    omega arith,
     record {
       domain = ap Some (sym domain);
       problem = ap Some (sym problem);
       plan = ap Some (sym plan);
-      scale = (codes "1", refl, sym scale);
-      horizon = (codes "1000000", refl, sym horizon);
+      scale = spelled (codes "1") _ refl (sym scale);
+      horizon = spelled (codes "1000000") _ refl (sym horizon);
       within = omega (arith, horizon);
     },
   ),
@@ -290,16 +350,15 @@ plan_words w domain problem scale horizon budget order = (
     record {
       domain = ap Some (sym domain);
       problem = ap Some (sym problem);
-      scale = (codes "1", refl, sym scale);
-      horizon = (codes "1000000", refl, sym horizon);
+      scale = spelled (codes "1") _ refl (sym scale);
+      horizon = spelled (codes "1000000") _ refl (sym horizon);
       within = omega (arith, horizon);
-      budget = (codes "7", refl, sym budget);
+      budget = spelled (codes "7") _ refl (sym budget);
       most = omega (arith, budget);
     },
     (
-      (λ none. refl),
-      (λ given. let e : 102 ≡ 116 = ap text_letter given in absurd (omega (arith, e))),
-      (λ other. refl),
+      (λ given. cc),
+      (λ is. let e : 102 ≡ 116 = ap text_letter is in absurd (omega (arith, e))),
     ),
   ),
 )
@@ -315,17 +374,13 @@ plan_progress_words w domain problem scale horizon budget order = (
     record {
       domain = ap Some (sym domain);
       problem = ap Some (sym problem);
-      scale = (codes "1", refl, sym scale);
-      horizon = (codes "1000000", refl, sym horizon);
+      scale = spelled (codes "1") _ refl (sym scale);
+      horizon = spelled (codes "1000000") _ refl (sym horizon);
       within = omega (arith, horizon);
-      budget = (codes "7", refl, sym budget);
+      budget = spelled (codes "7") _ refl (sym budget);
       most = omega (arith, budget);
     },
-    (
-      (λ none. let e : 116 ≡ 0 = ap text_letter none in absurd (omega (arith, e))),
-      (λ given. refl),
-      (λ other. let e : 116 ≡ 102 = ap text_letter other in absurd (omega (arith, e))),
-    ),
+    ((λ given. refl), (λ is. refl)),
   ),
 )
 
@@ -340,21 +395,16 @@ solve_words w wishes domain problem scale horizon budget order improve progress 
     record {
       domain = ap Some (sym domain);
       problem = ap Some (sym problem);
-      scale = (codes "1", refl, sym scale);
-      horizon = (codes "1000000", refl, sym horizon);
+      scale = spelled (codes "1") _ refl (sym scale);
+      horizon = spelled (codes "1000000") _ refl (sym horizon);
       within = omega (arith, horizon);
-      budget = (codes "1000000", refl, sym budget);
+      budget = spelled (codes "1000000") _ refl (sym budget);
       most = omega (arith, budget);
     },
+    ((λ given. refl), (λ is. improve)),
     (
-      (λ none. let e : 116 ≡ 0 = ap text_letter none in absurd (omega (arith, e))),
-      (λ given. improve),
-      (λ other. let e : 116 ≡ 102 = ap text_letter other in absurd (omega (arith, e))),
-    ),
-    (
-      (λ none. progress),
-      (λ given. let e : 102 ≡ 116 = ap text_letter given in absurd (omega (arith, e))),
-      (λ other. progress),
+      (λ given. let no : false ≡ true = sym progress ∙ given in cc),
+      (λ is. let e : 102 ≡ 116 = ap text_letter is in absurd (omega (arith, e))),
     ),
   ),
 )
@@ -362,7 +412,7 @@ solve_words w wishes domain problem scale horizon budget order improve progress 
 -- the file of a journal
 pub audit_words : (w : PlanWords) → w.plan.now ≡ codes "l" → AsksFor (codes "audit" ∷ codes "l" ∷ []) (Audit w.plan)
 unfolding clap_on_literals
-audit_words w log = (refl, (_, refl, ap Some (sym log), refl, (One, (codes "1", refl, refl))))
+audit_words w log = (refl, (_, refl, ap Some (sym log), refl, (One, spelled (codes "1") _ refl refl)))
 
 -- the files of a plan, up to where it is drawn, and a journal
 pub draw_words : (w : DrawWords) (v : PlanWords) → w.domain.now ≡ codes "d" → w.problem.now ≡ codes "p" → w.plan.now ≡ codes "l" → scale_ticks w.scale ≡ 1 → w.horizon ≡ Some 9 → w.journal ≡ Some v.plan → v.plan.now ≡ codes "j" → AsksFor (codes "draw" ∷ codes "d" ∷ codes "p" ∷ codes "l" ∷ codes "--horizon" ∷ codes "9" ∷ codes "--journal" ∷ codes "j" ∷ []) (Draw w)
@@ -376,8 +426,8 @@ draw_words w v domain problem plan scale horizon journal log = (
       domain = ap Some (sym domain);
       problem = ap Some (sym problem);
       plan = ap Some (sym plan);
-      scale = (codes "1", refl, sym scale);
-      until = subst (IsUntil (Some (codes "9")) (Some (codes "9"))) (sym horizon) ((codes "9", refl, refl), omega arith);
+      scale = spelled (codes "1") _ refl (sym scale);
+      until = subst (IsUntil (Some (codes "9")) (Some (codes "9"))) (sym horizon) (spelled (codes "9") _ refl refl, omega arith);
       journal = ap (option_map (λ s. s.now)) journal ∙ ap Some log;
     },
   ),
@@ -521,7 +571,7 @@ asks_domain words (Plan w) h = free_is _ _ _ h.0 (search_domain_is _ w.order w h
 asks_domain words (Audit log) h = free_is _ _ _ h.0 (domain_is _ (codes "audit") h.1.0 None h.1.1 (sym h.1.3))
 asks_domain words (PlanAudit log w) h = free_is _ _ _ h.0 (domain_is _ (codes "audit") h.1.0 _ h.1.1 (sym h.1.3.domain))
 asks_domain words (Split w owners) h = free_is _ _ _ h.0 (domain_is _ (codes "split") h.1.0 _ h.1.1 (sym h.1.4.domain))
-asks_domain words (Part w owners agent) h = free_is _ _ _ h.0 (domain_is _ (codes "split") h.1.0 _ h.1.1 (sym h.1.4.domain))
+asks_domain words (Part w owners agent) h = free_is _ _ _ h.0 (domain_is _ (codes "split") h.1.0 _ h.1.1 (sym h.1.5.domain))
 asks_domain words (Draw w) h = free_is _ _ _ h.0 (domain_is _ (codes "draw") h.1.0 _ h.1.1 (sym h.1.2.domain))
 asks_domain words (Help text) h = help_is _ _ h
 

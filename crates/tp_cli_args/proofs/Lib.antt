@@ -1,2 +1,3 @@
 mod ArgumentLemmas
 mod CommandLemmas
+mod RefusalLemmas

@@ -1,7 +1,10 @@
 -- What the words of a call ask for.
-use Rattle.std.specs.Prelude.{◌≡◌, ◌≤◌, ◌⊎◌, ℕ, Bool, true, false, List, [], Option, Some, None, option_map, codes}
-use Rattle.std.specs.Str.Parse.{digits_value, without_leading_plus}
-use Rattle.clap.specs.Words.{IsAmong, Row, Text, fault_of, first_of, one_of, subcommand_of}
+use Rattle.std.specs.Prelude.{◌≡◌, ◌≤◌, ◌⊎◌, ℕ, Bool, true, false, IfSome, List, [], ◌∷◌, Option, Some, None, option_map, count_by, codes}
+use Rattle.std.specs.Borrow.{Bor}
+use Rattle.std.specs.List.{list_any}
+use Rattle.std.specs.Str.{bytes_eq}
+use Rattle.std.specs.Str.Parse.{IsNumeral, digits_value, without_leading_plus}
+use Rattle.clap.specs.Words.{IsAmong, Kinds, Row, Text, fault_of, first_of, one_of, subcommand_of}
 use Rattle.clap.specs.declared.error.kind.ErrorKind.{ErrorKind}
 use Rattle.clap.specs.declared.error.kind.ErrorKind.TheVariants.{DisplayHelp, DisplayVersion}
 use Rattle.tp_text.specs.Scales.{scale_ticks}
@@ -16,9 +19,12 @@ use Rattle.tp_cli_plan.specs.declared.search_words.SearchWords.{SearchWords}
 use Rattle.tp_cli_args.specs.declared.requests.Request.{Request}
 use Rattle.tp_cli_args.specs.declared.requests.Request.TheVariants.{Bare, BareLog, BareResume, Check, Net, Run, RunLog, RunResume, Plan, Audit, PlanAudit, Split, Part, Draw, Help}
 
--- the text is there, and its digits make the number
-abbrev pub Spells : Option Text → ℕ → Type 0
-Spells text n = (t : Text) × (text ≡ Some t) × (digits_value 10 (without_leading_plus t) ≡ n)
+-- the text is there, and is a numeral of the number
+pub record Spells (text : Option Text) (n : ℕ) : Type 0 where
+  pub numeral : Text
+  pub given : text ≡ Some numeral
+  pub digits : IsNumeral 10 (without_leading_plus numeral)
+  pub value : digits_value 10 (without_leading_plus numeral) ≡ n
 
 -- the values of `check`, `net`, `run`, `audit` and `split`, or their defaults
 pub record IsPlanWords (rows : List Row) (w : PlanWords) : Type 0 where
@@ -58,11 +64,10 @@ pub record IsDrawWords (rows : List Row) (w : DrawWords) : Type 0 where
       IsUntil (first_of (codes "horizon") rows) (one_of (codes "horizon") rows) w.horizon
   pub journal : option_map (λ s. s.now) w.journal ≡ first_of (codes "journal") rows
 
--- whether an option is given that has no value
+-- whether an option is given that has no value: its text is `true` then
 abbrev pub IsFlag : Option Text → Bool → Type 0
 IsFlag text given =
-    (text ≡ None → given ≡ false) × (text ≡ Some (codes "true") → given ≡ true)
-    × (text ≡ Some (codes "false") → given ≡ false)
+    (given ≡ true → text ≡ Some (codes "true")) × (text ≡ Some (codes "true") → given ≡ true)
 
 -- `plan` asks for a search of the one order, and `solve` for one of the other, with what is wished for beside
 abbrev pub AsksSearch : Option (Text × List Row) → Order → SearchWords → Type 0
@@ -125,7 +130,7 @@ AsksBy named (Split w owners) =
 AsksBy named (Part w owners agent) =
     (rows : List Row) × (named ≡ Some (codes "split", rows))
     × (first_of (codes "OWNERS") rows ≡ Some owners.now)
-    × Spells (one_of (codes "part") rows) agent × IsPlanWords rows w
+    × Spells (one_of (codes "part") rows) agent × (agent ≤ 1023) × IsPlanWords rows w
 AsksBy named (Draw w) = (rows : List Row) × (named ≡ Some (codes "draw", rows))
     × IsDrawWords rows w
 AsksBy named (Help text) = ⊥
@@ -273,6 +278,69 @@ resume_name (Split w owners) = None
 resume_name (Part w owners agent) = None
 resume_name (Draw w) = None
 resume_name (Help text) = None
+
+-- the name of a file, if there is one
+abbrev pub file_names : Option (Bor Text) → List Text
+file_names None = []
+file_names (Some name) = name.now ∷ []
+
+-- the files that are read, but for the commands on the standard input
+abbrev pub read_files : Request → List Text
+read_files Bare = []
+read_files (BareLog log) = []
+read_files (BareResume old log) = old.now ∷ []
+read_files (Check w) = w.domain.now ∷ w.problem.now ∷ w.plan.now ∷ []
+read_files (Net w) = w.domain.now ∷ w.problem.now ∷ w.plan.now ∷ []
+read_files (Run w) = w.domain.now ∷ w.problem.now ∷ w.plan.now ∷ []
+read_files (RunLog w log) = w.domain.now ∷ w.problem.now ∷ w.plan.now ∷ []
+read_files (RunResume w old log) = old.now ∷ w.domain.now ∷ w.problem.now ∷ w.plan.now ∷ []
+read_files (Plan w) = w.domain.now ∷ w.problem.now ∷ []
+read_files (Audit log) = log.now ∷ []
+read_files (PlanAudit log w) = log.now ∷ w.domain.now ∷ w.problem.now ∷ w.plan.now ∷ []
+read_files (Split w owners) = w.domain.now ∷ w.problem.now ∷ w.plan.now ∷ owners.now ∷ []
+read_files (Part w owners agent) = w.domain.now ∷ w.problem.now ∷ w.plan.now ∷ owners.now ∷ []
+read_files (Draw w) = w.domain.now ∷ w.problem.now ∷ w.plan.now ∷ file_names w.journal
+read_files (Help text) = []
+
+-- how many of the files may be the standard input: none where commands come from there
+abbrev pub most_inputs : Request → ℕ
+most_inputs Bare = 0
+most_inputs (BareLog log) = 0
+most_inputs (BareResume old log) = 0
+most_inputs (Run w) = 0
+most_inputs (RunLog w log) = 0
+most_inputs (RunResume w old log) = 0
+most_inputs r = 1
+
+-- how many of these files are the standard input
+abbrev pub inputs : List Text → ℕ
+inputs files = count_by (λ name. bytes_eq name (codes "-")) files
+
+-- a journal that is written is neither the standard input nor one of these files
+abbrev pub IsApart : List Text → Text → Type 0
+IsApart files log = list_any (λ name. bytes_eq name log) (codes "-" ∷ files) ≡ false
+
+-- the files of a request are apart
+abbrev pub HasOwnFiles : Request → Type 0
+HasOwnFiles r =
+    (inputs (read_files r) ≤ most_inputs r) × IfSome (journal_name r) (IsApart (read_files r))
+
+-- a command with its values asks for nothing whose files are apart
+abbrev pub AsksNothing : Option (Text × List Row) → Type 0
+AsksNothing named = (r : Request) → AsksBy named r → HasOwnFiles r → ⊥
+
+-- help or the version is called for, and no other fault of the words may come before
+abbrev pub CallsForText : Kinds → Type 0
+CallsForText faults = (faults ≡ DisplayHelp ∷ []) ⊎ (faults ≡ DisplayVersion ∷ [])
+
+-- the words ask for it, and nothing is against it
+abbrev pub AsksRightly : List Text → Request → Type 0
+AsksRightly words (Help text) = CallsForText (fault_of tempo_app words)
+AsksRightly words r = AsksFor words r × HasOwnFiles r
+
+-- the words ask for nothing, or not rightly
+abbrev pub AsksForNothing : List Text → Type 0
+AsksForNothing words = (r : Request) → AsksRightly words r → ⊥
 
 -- words ask for one kind of thing at most: for one command, with one file for a journal or none, one to go on from or none, one of
 -- a domain or none, and one of agents or none, or for help

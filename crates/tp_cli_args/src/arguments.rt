@@ -1,15 +1,21 @@
 //! The reading of the words of a call.
 
-ghost use Rattle.std.specs.Prelude.{◌≡◌, ◌≢◌, ◌⊎◌, ℕ, ◌∷◌, [], List, true, false, Some, None, Ok, Err, IfOk, IfErr, IfSome, map, option_map, codes};
+ghost use Rattle.std.specs.Prelude.{◌≡◌, ◌≢◌, ◌⊎◌, ◌<◌, ◌≤◌, ◌^◌, ℕ, ◌∷◌, [], List, true, false, Option, Some, None, Ok, Err, IfOk, IfErr, IfSome, IfNone, map, count_by, option_map, codes};
+ghost use Rattle.std.specs.Bool.{Decides};
+ghost use Rattle.std.specs.List.{list_any};
+ghost use Rattle.std.specs.Str.{bytes_eq};
 ghost use Rattle.std.specs.String.{string_bytes};
-ghost use Rattle.clap.specs.Words.{Text, Row, first_of, found_of, kind_of, one_of, rows_of, subcommand_rows_of};
+ghost use Rattle.clap.specs.Words.{Text, Row, fault_of, first_of, found_of, kind_of, one_of, rows_of, subcommand_rows_of};
 ghost use Rattle.clap.specs.declared.error.kind.ErrorKind.TheVariants as kinds;
 ghost use Rattle.tp_text.specs.Scales.{scale_ticks};
+ghost use Rattle.tp_text.specs.declared.number.Scale.{Scale};
 ghost use Rattle.tp_cli_inputs.specs.declared.plan_words.PlanWords.{PlanWords};
 ghost use Rattle.tp_cli_inputs.specs.declared.draw_words.DrawWords.{DrawWords};
 ghost use Rattle.tp_cli_plan.specs.declared.search_words.SearchWords.{SearchWords};
 ghost use Rattle.tp_solve.specs.declared.solving.Wishes.{Wishes};
-ghost use Rattle.tp_cli_args.specs.Requests.{AskForOneThing, AsksBy, AsksFor, IsDrawWords, IsFlag, IsPlanWords, IsSearchWords, IsUntil, NamesBare, Spells, TellsText};
+ghost use Rattle.tp_cli_args.specs.Commands.{tempo_app};
+ghost use Rattle.tp_cli_args.specs.Refusals.{NoAudit, NoBare, NoDraw, NoPlanOf, NoRun, NoSearch, NoSplit};
+ghost use Rattle.tp_cli_args.specs.Requests.{AskForOneThing, AsksBy, AsksFor, AsksForNothing, AsksNothing, CallsForText, HasOwnFiles, IsDrawWords, IsFlag, IsPlanWords, IsSearchWords, IsUntil, NamesBare, Spells, TellsText, file_names, inputs};
 
 use crate::commands::tempo_command;
 use crate::requests::Request;
@@ -49,32 +55,21 @@ const GREATEST_BUDGET: u32 = 1_000_000;
 /// The greatest budget of a guided search.
 const GREATEST_GUIDED_BUDGET: u32 = 1_000_000_000;
 
-/// Whether just so many of these files, or fewer, are the standard input.
-fn reads_at_most(most: usize, files: &[&str]) -> bool {
-    let mut left = most;
-    for name in files {
-        if *name == STANDARD_INPUT {
-            if left == 0 {
-                return false;
-            }
-            left -= 1;
-        }
-    }
-    true
+/// The greatest number of an agent.
+const GREATEST_AGENT: u32 = 1023;
+
+/// How many of these files are the standard input.
+fn inputs(files: &[&str]) -> usize
+    ensures { result ≡ count_by (λ name. bytes_eq name.now (codes "-")) files.now }
+{
+    files.iter().filter(|name| **name == STANDARD_INPUT).count()
 }
 
-/// Whether a journal can go to the file of that name: neither is it the standard input, nor one of
-/// the other files.
-fn is_apart(log: &str, files: &[&str]) -> bool {
-    if log == STANDARD_INPUT {
-        return false;
-    }
-    for name in files {
-        if *name == log {
-            return false;
-        }
-    }
-    true
+/// Whether one of these files has a name.
+fn is_among(name: &str, files: &[&str]) -> bool
+    ensures { result ≡ list_any (λ file. bytes_eq file.now name.now) files.now }
+{
+    files.iter().any(|file| *file == name)
 }
 
 /// The value of a word.
@@ -86,15 +81,19 @@ fn word<'w>(matches: &ArgMatches<'w>, id: &str) -> Option<&'w str>
 
 /// The number that the value of a word spells.
 fn number(matches: &ArgMatches<'_>, id: &str) -> Option<u32>
-    ensures { IfSome result (Spells (one_of id.now (rows_of (found_of matches.now)))) }
+    ensures spelled { IfSome result (Spells (one_of id.now (rows_of (found_of matches.now)))) }
+    ensures refused { IfNone result ((n : ℕ) → n < 2 ^ 32
+        → Spells (one_of id.now (rows_of (found_of matches.now))) n → ⊥) }
 {
     matches.get_one::<u32>(id)
 }
 
 /// The scale that `--scale` asks for, if there is such a one.
 fn scale(matches: &ArgMatches<'_>) -> Option<Scale>
-    ensures { IfSome result
+    ensures spelled { IfSome result
         (λ s. Spells (one_of (codes "scale") (rows_of (found_of matches.now))) (scale_ticks s)) }
+    ensures refused { IfNone result ((s : Scale)
+        → Spells (one_of (codes "scale") (rows_of (found_of matches.now))) (scale_ticks s) → ⊥) }
 {
     Scale::from_number(number(matches, "scale")?)
 }
@@ -102,14 +101,19 @@ fn scale(matches: &ArgMatches<'_>) -> Option<Scale>
 /// The files of a plan and how its time is measured. At most so many of the files may be the
 /// standard input.
 fn plan_words<'w>(matches: &ArgMatches<'w>, most: usize) -> Option<PlanWords<'w>>
-    ensures { IfSome result (IsPlanWords (rows_of (found_of matches.now))) }
+    ensures words { IfSome result (IsPlanWords (rows_of (found_of matches.now))) }
+    ensures own { IfSome result
+        (λ w. inputs (w.domain.now ∷ w.problem.now ∷ w.plan.now ∷ []) ≤ most) }
+    ensures refused { IfNone result ((w : PlanWords)
+        → IsPlanWords (rows_of (found_of matches.now)) w
+        → most < inputs (w.domain.now ∷ w.problem.now ∷ w.plan.now ∷ [])) }
 {
     let domain = word(matches, "DOMAIN")?;
     let problem = word(matches, "PROBLEM")?;
     let plan = word(matches, "PLAN")?;
     let scale = scale(matches)?;
     let horizon = number(matches, "horizon")?;
-    if horizon > GREATEST_HORIZON || !reads_at_most(most, &[domain, problem, plan]) {
+    if horizon > GREATEST_HORIZON || inputs(&[domain, problem, plan]) > most {
         return None;
     }
     Some(PlanWords {
@@ -130,6 +134,10 @@ fn search_words<'w>(
 ) -> Option<SearchWords<'w>>
     ensures words { IfSome result (IsSearchWords greatest (rows_of (found_of matches.now))) }
     ensures order { IfSome result (λ w. w.order ≡ order) }
+    ensures own { IfSome result (λ w. inputs (w.domain.now ∷ w.problem.now ∷ []) ≤ 1) }
+    ensures refused { IfNone result ((w : SearchWords)
+        → IsSearchWords greatest (rows_of (found_of matches.now)) w
+        → 1 < inputs (w.domain.now ∷ w.problem.now ∷ [])) }
 {
     let domain = word(matches, "DOMAIN")?;
     let problem = word(matches, "PROBLEM")?;
@@ -139,7 +147,7 @@ fn search_words<'w>(
     if horizon > GREATEST_HORIZON || budget > greatest {
         return None;
     }
-    if !reads_at_most(1, &[domain, problem]) {
+    if inputs(&[domain, problem]) > 1 {
         return None;
     }
     Some(SearchWords {
@@ -156,12 +164,14 @@ fn search_words<'w>(
 fn flag(matches: &ArgMatches<'_>, id: &str) -> bool
     ensures { IsFlag (one_of id.now (rows_of (found_of matches.now))) result }
 {
-    matches.get_flag(id)
+    matches.get_one::<bool>(id).unwrap_or(false)
 }
 
 /// What `plan` asks for.
 fn plan_asked<'w>(matches: &ArgMatches<'w>) -> Option<Request<'w>>
-    ensures { IfSome result (AsksBy (Some (codes "plan", rows_of (found_of matches.now)))) }
+    ensures asked { IfSome result (AsksBy (Some (codes "plan", rows_of (found_of matches.now)))) }
+    ensures own { IfSome result HasOwnFiles }
+    ensures refused { IfNone result (NoSearch 1000000 (rows_of (found_of matches.now))) }
 {
     let progress = flag(matches, "progress");
     let words = search_words(matches, GREATEST_BUDGET, Order::Lacking { progress })?;
@@ -170,7 +180,9 @@ fn plan_asked<'w>(matches: &ArgMatches<'w>) -> Option<Request<'w>>
 
 /// What `solve` asks for.
 fn solve_asked<'w>(matches: &ArgMatches<'w>) -> Option<Request<'w>>
-    ensures { IfSome result (AsksBy (Some (codes "solve", rows_of (found_of matches.now)))) }
+    ensures asked { IfSome result (AsksBy (Some (codes "solve", rows_of (found_of matches.now)))) }
+    ensures own { IfSome result HasOwnFiles }
+    ensures refused { IfNone result (NoSearch 1000000000 (rows_of (found_of matches.now))) }
 {
     let wishes = Wishes {
         improve: flag(matches, "improve"),
@@ -184,32 +196,41 @@ fn solve_asked<'w>(matches: &ArgMatches<'w>) -> Option<Request<'w>>
 fn bare_begun<'w>(matches: &ArgMatches<'w>) -> Option<Request<'w>>
     requires { first_of (codes "resume") (rows_of (found_of matches.now)) ≡ None }
     ensures asked { IfSome result (AsksBy (Some (codes "bare", rows_of (found_of matches.now)))) }
+    ensures own { IfSome result HasOwnFiles }
+    ensures refused { IfNone result (NoBare (rows_of (found_of matches.now))) }
     ensures bare { first_of (codes "journal") (rows_of (found_of matches.now)) ≡ None
         → result ≡ Some Request.Bare }
 {
     match word(matches, "journal") {
         None => Some(Request::Bare),
-        Some(log) if is_apart(log, &[]) => Some(Request::BareLog(log)),
-        Some(_) => None,
+        Some(log) => {
+            if is_among(log, &[STANDARD_INPUT]) {
+                return None;
+            }
+            Some(Request::BareLog(log))
+        }
     }
 }
 
 /// What `bare` asks for that goes on from the journal in a file: it goes to another.
 fn bare_resumed<'w>(matches: &ArgMatches<'w>, old: &'w str) -> Option<Request<'w>>
     requires { first_of (codes "resume") (rows_of (found_of matches.now)) ≡ Some old.now }
-    ensures { IfSome result (AsksBy (Some (codes "bare", rows_of (found_of matches.now)))) }
+    ensures asked { IfSome result (AsksBy (Some (codes "bare", rows_of (found_of matches.now)))) }
+    ensures own { IfSome result HasOwnFiles }
+    ensures refused { IfNone result (NoBare (rows_of (found_of matches.now))) }
 {
     let log = word(matches, "journal")?;
-    if is_apart(log, &[old]) && reads_at_most(0, &[old]) {
-        Some(Request::BareResume(old, log))
-    } else {
-        None
+    if inputs(&[old]) > 0 || is_among(log, &[STANDARD_INPUT, old]) {
+        return None;
     }
+    Some(Request::BareResume(old, log))
 }
 
 /// What `bare` asks for.
 fn bare_asked<'w>(matches: &ArgMatches<'w>) -> Option<Request<'w>>
     ensures asked { IfSome result (AsksBy (Some (codes "bare", rows_of (found_of matches.now)))) }
+    ensures own { IfSome result HasOwnFiles }
+    ensures refused { IfNone result (NoBare (rows_of (found_of matches.now))) }
     ensures bare { NamesBare (Some (codes "bare", rows_of (found_of matches.now)))
         → result ≡ Some Request.Bare }
 {
@@ -224,14 +245,20 @@ fn bare_asked<'w>(matches: &ArgMatches<'w>) -> Option<Request<'w>>
 fn run_begun<'w>(matches: &ArgMatches<'w>, plan: PlanWords<'w>) -> Option<Request<'w>>
     requires resume { first_of (codes "resume") (rows_of (found_of matches.now)) ≡ None }
     requires plan { IsPlanWords (rows_of (found_of matches.now)) plan }
-    ensures { IfSome result (AsksBy (Some (codes "run", rows_of (found_of matches.now)))) }
+    ensures asked { IfSome result (AsksBy (Some (codes "run", rows_of (found_of matches.now)))) }
+    ensures own { inputs
+        (plan.entry.domain.now ∷ plan.entry.problem.now ∷ plan.entry.plan.now ∷ []) ≤ 0
+        → IfSome result HasOwnFiles }
+    ensures refused { IfNone result (NoRun (rows_of (found_of matches.now))) }
 {
     match word(matches, "journal") {
         None => Some(Request::Run(plan)),
-        Some(log) if is_apart(log, &[plan.domain, plan.problem, plan.plan]) => {
+        Some(log) => {
+            if is_among(log, &[STANDARD_INPUT, plan.domain, plan.problem, plan.plan]) {
+                return None;
+            }
             Some(Request::RunLog(plan, log))
         }
-        Some(_) => None,
     }
 }
 
@@ -243,19 +270,25 @@ fn run_resumed<'w>(
 ) -> Option<Request<'w>>
     requires resume { first_of (codes "resume") (rows_of (found_of matches.now)) ≡ Some old.now }
     requires plan { IsPlanWords (rows_of (found_of matches.now)) plan }
-    ensures { IfSome result (AsksBy (Some (codes "run", rows_of (found_of matches.now)))) }
+    ensures asked { IfSome result (AsksBy (Some (codes "run", rows_of (found_of matches.now)))) }
+    ensures own { inputs
+        (plan.entry.domain.now ∷ plan.entry.problem.now ∷ plan.entry.plan.now ∷ []) ≤ 0
+        → IfSome result HasOwnFiles }
+    ensures refused { IfNone result (NoRun (rows_of (found_of matches.now))) }
 {
     let log = word(matches, "journal")?;
-    if is_apart(log, &[old, plan.domain, plan.problem, plan.plan]) && reads_at_most(0, &[old]) {
-        Some(Request::RunResume(plan, old, log))
-    } else {
-        None
+    let files = [STANDARD_INPUT, old, plan.domain, plan.problem, plan.plan];
+    if inputs(&[old]) > 0 || is_among(log, &files) {
+        return None;
     }
+    Some(Request::RunResume(plan, old, log))
 }
 
 /// What `run` asks for.
 fn run_asked<'w>(matches: &ArgMatches<'w>) -> Option<Request<'w>>
-    ensures { IfSome result (AsksBy (Some (codes "run", rows_of (found_of matches.now)))) }
+    ensures asked { IfSome result (AsksBy (Some (codes "run", rows_of (found_of matches.now)))) }
+    ensures own { IfSome result HasOwnFiles }
+    ensures refused { IfNone result (NoRun (rows_of (found_of matches.now))) }
 {
     let plan = plan_words(matches, 0)?;
     match word(matches, "resume") {
@@ -266,7 +299,9 @@ fn run_asked<'w>(matches: &ArgMatches<'w>) -> Option<Request<'w>>
 
 /// What `audit` asks for: that of a plan's run, where its files are named.
 fn audit_asked<'w>(matches: &ArgMatches<'w>) -> Option<Request<'w>>
-    ensures { IfSome result (AsksBy (Some (codes "audit", rows_of (found_of matches.now)))) }
+    ensures asked { IfSome result (AsksBy (Some (codes "audit", rows_of (found_of matches.now)))) }
+    ensures own { IfSome result HasOwnFiles }
+    ensures refused { IfNone result (NoAudit (rows_of (found_of matches.now))) }
 {
     let log = word(matches, "LOG")?;
     match word(matches, "DOMAIN") {
@@ -276,7 +311,7 @@ fn audit_asked<'w>(matches: &ArgMatches<'w>) -> Option<Request<'w>>
         }
         Some(_) => {
             let plan = plan_words(matches, 1)?;
-            if !reads_at_most(1, &[log, plan.domain, plan.problem, plan.plan]) {
+            if inputs(&[log, plan.domain, plan.problem, plan.plan]) > 1 {
                 return None;
             }
             Some(Request::PlanAudit(log, plan))
@@ -286,22 +321,32 @@ fn audit_asked<'w>(matches: &ArgMatches<'w>) -> Option<Request<'w>>
 
 /// What `split` asks for: the network of one agent, where it is named.
 fn split_asked<'w>(matches: &ArgMatches<'w>) -> Option<Request<'w>>
-    ensures { IfSome result (AsksBy (Some (codes "split", rows_of (found_of matches.now)))) }
+    ensures asked { IfSome result (AsksBy (Some (codes "split", rows_of (found_of matches.now)))) }
+    ensures own { IfSome result HasOwnFiles }
+    ensures refused { IfNone result (NoSplit (rows_of (found_of matches.now))) }
 {
     let plan = plan_words(matches, 1)?;
     let owners = word(matches, "OWNERS")?;
-    if !reads_at_most(1, &[plan.domain, plan.problem, plan.plan, owners]) {
+    if inputs(&[plan.domain, plan.problem, plan.plan, owners]) > 1 {
         return None;
     }
     match word(matches, "part") {
         None => Some(Request::Split(plan, owners)),
-        Some(_) => Some(Request::Part(plan, owners, number(matches, "part")?)),
+        Some(_) => {
+            let agent = number(matches, "part")?;
+            if agent > GREATEST_AGENT {
+                return None;
+            }
+            Some(Request::Part(plan, owners, agent))
+        }
     }
 }
 
 /// The files of a plan that is drawn, and how.
 fn draw_words<'w>(matches: &ArgMatches<'w>) -> Option<DrawWords<'w>>
-    ensures { IfSome result (IsDrawWords (rows_of (found_of matches.now))) }
+    ensures words { IfSome result (IsDrawWords (rows_of (found_of matches.now))) }
+    ensures refused { IfNone result ((w : DrawWords)
+        → IsDrawWords (rows_of (found_of matches.now)) w → ⊥) }
 {
     let domain = word(matches, "DOMAIN")?;
     let problem = word(matches, "PROBLEM")?;
@@ -321,9 +366,12 @@ fn draw_words<'w>(matches: &ArgMatches<'w>) -> Option<DrawWords<'w>>
 
 /// The tick that `--horizon` gives, if it is there.
 fn until(matches: &ArgMatches<'_>) -> Option<Option<u32>>
-    ensures { IfSome result (IsUntil
+    ensures given { IfSome result (IsUntil
         (first_of (codes "horizon") (rows_of (found_of matches.now)))
         (one_of (codes "horizon") (rows_of (found_of matches.now)))) }
+    ensures refused { IfNone result ((horizon : Option ℕ) → IsUntil
+        (first_of (codes "horizon") (rows_of (found_of matches.now)))
+        (one_of (codes "horizon") (rows_of (found_of matches.now))) horizon → ⊥) }
 {
     match word(matches, "horizon") {
         None => Some(None),
@@ -337,86 +385,88 @@ fn until(matches: &ArgMatches<'_>) -> Option<Option<u32>>
     }
 }
 
+/// Whether one file at most of those for a picture is the standard input.
+fn draws_apart(words: DrawWords<'_>) -> bool
+    ensures { Decides result (inputs (words.entry.domain.now ∷ words.entry.problem.now
+        ∷ words.entry.plan.now ∷ file_names words.entry.journal) ≤ 1) }
+{
+    match words.journal {
+        None => inputs(&[words.domain, words.problem, words.plan]) <= 1,
+        Some(log) => inputs(&[words.domain, words.problem, words.plan, log]) <= 1,
+    }
+}
+
 /// What `draw` asks for.
 fn draw_asked<'w>(matches: &ArgMatches<'w>) -> Option<Request<'w>>
-    ensures { IfSome result (AsksBy (Some (codes "draw", rows_of (found_of matches.now)))) }
+    ensures asked { IfSome result (AsksBy (Some (codes "draw", rows_of (found_of matches.now)))) }
+    ensures own { IfSome result HasOwnFiles }
+    ensures refused { IfNone result (NoDraw (rows_of (found_of matches.now))) }
 {
     let words = draw_words(matches)?;
-    let log = words.journal.unwrap_or("");
-    if !reads_at_most(1, &[words.domain, words.problem, words.plan, log]) {
+    if !draws_apart(words) {
         return None;
     }
     Some(Request::Draw(words))
 }
 
-/// What a command with its values asks for.
-fn asked_by<'w>(name: &str, matches: &ArgMatches<'w>) -> Result<Request<'w>, NoRequest>
-    ensures asked { IfOk result (AsksBy (Some (name.now, rows_of (found_of matches.now)))) }
-    ensures bare { NamesBare (Some (name.now, rows_of (found_of matches.now)))
-        → result ≡ Ok Request.Bare }
+/// What `check` asks for.
+fn check_asked<'w>(matches: &ArgMatches<'w>) -> Option<Request<'w>>
+    ensures asked { IfSome result (AsksBy (Some (codes "check", rows_of (found_of matches.now)))) }
+    ensures own { IfSome result HasOwnFiles }
+    ensures refused { IfNone result (NoPlanOf (rows_of (found_of matches.now))) }
 {
-    if name == "bare" {
-        if let Some(request) = bare_asked(matches) {
-            return Ok(request);
-        }
+    Some(Request::Check(plan_words(matches, 1)?))
+}
+
+/// What `net` asks for.
+fn net_asked<'w>(matches: &ArgMatches<'w>) -> Option<Request<'w>>
+    ensures asked { IfSome result (AsksBy (Some (codes "net", rows_of (found_of matches.now)))) }
+    ensures own { IfSome result HasOwnFiles }
+    ensures refused { IfNone result (NoPlanOf (rows_of (found_of matches.now))) }
+{
+    Some(Request::Net(plan_words(matches, 1)?))
+}
+
+/// What a command with its values asks for.
+fn asked_by<'w>(name: &str, matches: &ArgMatches<'w>) -> Option<Request<'w>>
+    ensures asked { IfSome result (AsksBy (Some (name.now, rows_of (found_of matches.now)))) }
+    ensures own { IfSome result HasOwnFiles }
+    ensures refused { IfNone result
+        (AsksNothing (Some (name.now, rows_of (found_of matches.now)))) }
+    ensures bare { NamesBare (Some (name.now, rows_of (found_of matches.now)))
+        → result ≡ Some Request.Bare }
+{
+    match name {
+        "bare" => bare_asked(matches),
+        "check" => check_asked(matches),
+        "net" => net_asked(matches),
+        "run" => run_asked(matches),
+        "plan" => plan_asked(matches),
+        "solve" => solve_asked(matches),
+        "audit" => audit_asked(matches),
+        "split" => split_asked(matches),
+        "draw" => draw_asked(matches),
+        _ => None,
     }
-    if name == "check" {
-        if let Some(words) = plan_words(matches, 1) {
-            return Ok(Request::Check(words));
-        }
-    }
-    if name == "net" {
-        if let Some(words) = plan_words(matches, 1) {
-            return Ok(Request::Net(words));
-        }
-    }
-    if name == "run" {
-        if let Some(request) = run_asked(matches) {
-            return Ok(request);
-        }
-    }
-    if name == "plan" {
-        if let Some(request) = plan_asked(matches) {
-            return Ok(request);
-        }
-    }
-    if name == "solve" {
-        if let Some(request) = solve_asked(matches) {
-            return Ok(request);
-        }
-    }
-    if name == "audit" {
-        if let Some(request) = audit_asked(matches) {
-            return Ok(request);
-        }
-    }
-    if name == "split" {
-        if let Some(request) = split_asked(matches) {
-            return Ok(request);
-        }
-    }
-    if name == "draw" {
-        if let Some(request) = draw_asked(matches) {
-            return Ok(request);
-        }
-    }
-    Err(NoRequest::Words(None))
 }
 
 /// What a parse asks for.
-fn asked<'w>(matches: &ArgMatches<'w>) -> Result<Request<'w>, NoRequest>
-    ensures asked { IfOk result (AsksBy (subcommand_rows_of matches.now)) }
-    ensures bare { NamesBare (subcommand_rows_of matches.now) → result ≡ Ok Request.Bare }
+fn asked<'w>(matches: &ArgMatches<'w>) -> Option<Request<'w>>
+    ensures asked { IfSome result (AsksBy (subcommand_rows_of matches.now)) }
+    ensures own { IfSome result HasOwnFiles }
+    ensures refused { IfNone result (AsksNothing (subcommand_rows_of matches.now)) }
+    ensures bare { NamesBare (subcommand_rows_of matches.now) → result ≡ Some Request.Bare }
 {
     match matches.subcommand() {
-        None => Ok(Request::Bare),
+        None => Some(Request::Bare),
         Some((name, inner)) => asked_by(name, inner),
     }
 }
 
 /// The text that a parse gave in place of matches.
 fn text_of<'w>(alloc: Global, error: &Error) -> Result<Request<'w>, NoRequest>
-    ensures { IfOk result (λ r. (text : _) × (r ≡ Request.Help text)) }
+    ensures help { IfOk result (λ r. (text : _) × (r ≡ Request.Help text)) }
+    ensures memory { IfErr result (λ e. e ≡ NoRequest.Memory) }
 {
     Ok(Request::Help(format!(in alloc; "{error}")?))
 }
@@ -427,6 +477,8 @@ fn without_matches<'w>(alloc: Global, error: &Error) -> Result<Request<'w>, NoRe
     ensures help { IfOk result (λ r.
         ((text : _) × (r ≡ Request.Help text)) × TellsText (kind_of error.now)) }
     ensures memory { kind_of error.now ≡ kinds.OutOfMemory → result ≡ Err NoRequest.Memory }
+    ensures refused { IfErr result
+        (λ e. (e ≡ NoRequest.Memory) ⊎ (TellsText (kind_of error.now) → ⊥)) }
 {
     match error.kind() {
         ErrorKind::OutOfMemory => Err(NoRequest::Memory),
@@ -439,12 +491,15 @@ fn without_matches<'w>(alloc: Global, error: &Error) -> Result<Request<'w>, NoRe
 /// Reads the words of a call.
 pub fn read_words<'w>(alloc: Global, words: &'w [String]) -> Result<Request<'w>, NoRequest>
     ensures asked { IfOk result (AsksFor (map string_bytes words.now)) }
+    ensures own { IfOk result HasOwnFiles }
+    ensures refused { IfErr result
+        (λ e. (e ≡ NoRequest.Memory) ⊎ AsksForNothing (map string_bytes words.now)) }
     ensures bare { AsksFor (map string_bytes words.now) Request.Bare
         → (result ≡ Ok Request.Bare) ⊎ (result ≡ Err NoRequest.Memory) }
 {
     let command = tempo_command(alloc)?;
     match command.try_get_matches_from(words) {
-        Ok(matches) => asked(&matches),
+        Ok(matches) => asked(&matches).ok_or(NoRequest::Words(None)),
         Err(error) => without_matches(alloc, &error),
     }
 }
@@ -453,6 +508,13 @@ pub fn read_words<'w>(alloc: Global, words: &'w [String]) -> Result<Request<'w>,
 pub fn bare_calls()
     ensures none { AsksFor [] Request.Bare }
     ensures bare { AsksFor (codes "bare" ∷ []) Request.Bare }
+{}
+
+/// Words that call for help, of the program or of a command, or for the version, and nothing else.
+pub fn help_calls()
+    ensures help { CallsForText (fault_of tempo_app (codes "--help" ∷ [])) }
+    ensures version { CallsForText (fault_of tempo_app (codes "--version" ∷ [])) }
+    ensures command { CallsForText (fault_of tempo_app (codes "check" ∷ codes "--help" ∷ [])) }
 {}
 
 /// The file for a journal behind `bare`.

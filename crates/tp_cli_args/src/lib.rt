@@ -14,7 +14,8 @@ mod requests;
 
 pub use arguments::{
     NoRequest, audit_calls, bare_calls, bare_log_calls, bare_resume_calls, check_calls, draw_calls,
-    net_calls, part_calls, plan_audit_calls, plan_calls, plan_progress_calls, read_words,
-    requests_are_distinct, run_calls, run_log_calls, run_resume_calls, solve_calls, split_calls,
+    help_calls, net_calls, part_calls, plan_audit_calls, plan_calls, plan_progress_calls,
+    read_words, requests_are_distinct, run_calls, run_log_calls, run_resume_calls, solve_calls,
+    split_calls,
 };
 pub use requests::Request;

@@ -1,6 +1,9 @@
-use Rattle.std.proofs.Common.{◌∙◌, List, ℕ, arith, inl, inr, refl, subst}
+use Rattle.std.proofs.Common.{◌≡◌, ◌⊎◌, ◌∙◌, List, map, ℕ, arith, inl, inr, refl, subst}
+use Rattle.std.specs.String.{string_bytes}
 use Rattle.std.proofs.KnownBytes.{Appends-nil}
 use Rattle.tp_cli_files.specs.FaultLines.{Tells}
+use Rattle.tp_cli_args.specs.Requests.{AsksForNothing}
+use Rattle.tp_cli_args.specs.declared.arguments.NoRequest.TheVariants.{Memory, Words}
 use Rattle.tp_cli_args.specs.declared.requests.Request.TheVariants.{Bare, BareLog, BareResume, Check, Net, Run, RunLog, RunResume, Plan, Audit, PlanAudit, Split, Part, Draw, Help}
 use Rattle.tp_cli.specs.CallFiles.{call_files}
 use Rattle.tp_cli.specs.Endings.{StopsHelp}
@@ -168,7 +171,13 @@ returns-in-Ok-Help-clause-stopped g c =
 pub returns-in-Err-Words-clause-stopped : goal.returns-in-Err-Words-clause-stopped
 returns-in-Err-Words-clause-stopped g c =
     λ two.
-    inl (c.refuse_words.ensures.refused (g.O.Sink.held c.args.output.now) (g.O.Sink.failures c.args.output.now))
+    let words = map string_bytes c.args.words.now in
+    let said : (Words c.in-Err-Words.text ≡ Memory) ⊎ AsksForNothing words = rw c.in-Err-Words.field-0-is at c.in-Err-Words.ensures.refused in
+    let nothing : AsksForNothing words = elim said [
+      | inl memory ↦ let no : ⊥ = cc memory in absurd no
+      | inr none ↦ none
+    ] in
+    inl (c.refuse_words.ensures.refused words nothing (g.O.Sink.held c.args.output.now) (g.O.Sink.failures c.args.output.now))
 
 pub returns-in-Ok-Bare-clause-unread : goal.returns-in-Ok-Bare-clause-unread
 returns-in-Ok-Bare-clause-unread g c =

@@ -1,5 +1,5 @@
 use Rattle.std.proofs.Common.{refl}
 use Rattle.tp_cli_args.proofs.arguments.text_of.Goals as goal
 
-pub returns : goal.returns
-returns c = (c.in_ok-format.field-0, refl)
+pub returns-clause-help : goal.returns-clause-help
+returns-clause-help c = (c.in_ok-format.field-0, refl)
