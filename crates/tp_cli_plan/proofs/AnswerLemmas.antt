@@ -15,10 +15,10 @@ use Rattle.tp_happen.specs.tp_plan_text.TaskWords.{readable}
 use Rattle.tp_validate.specs.OfTask.{IsOfTask, IsValidPlan}
 use Rattle.tp_validate.specs.Validated.{Validated}
 use Rattle.tp_task.specs.TaskReach.{GoalIs}
-use Rattle.tp_search.specs.tp_search.Answers.{IsAnswer}
-use Rattle.tp_search.specs.tp_search.Plans.{EndsBy}
-use Rattle.tp_search.specs.tp_search.declared.found.Found.{Found}
-use Rattle.tp_search.specs.tp_search.declared.found.Found.TheVariants.{Plan, Unreachable, Exhausted, Spent}
+use Rattle.tp_search.specs.Answers.{IsAnswer}
+use Rattle.tp_search.specs.Plans.{EndsBy}
+use Rattle.tp_search.specs.declared.found.Found.{Found}
+use Rattle.tp_search.specs.declared.found.Found.TheVariants.{Plan, Unreachable, Exhausted, Spent}
 use Rattle.tp_ground_laws.specs.SamePlans.{HaveSamePlans, HoldsPlans}
 use Rattle.tp_cli_plan.specs.SearchTasks.{IsSearchTask}
 use Rattle.tp_cli_plan.specs.FoundText.{IsFoundOfTask, IsNoPlanLine, IsPlanText, found_text, is_plan, spent_line}

@@ -15,9 +15,9 @@ use Rattle.tp_task.specs.Words.{Words, has_words}
 use Rattle.tp_task.specs.declared.task.Task.{Task}
 use Rattle.tp_happen.specs.tp_plan_text.PlanPrints.{PlansAreRead}
 use Rattle.tp_validate.specs.Validated.{Validated}
-use Rattle.tp_search.specs.tp_search.Answers.{IsAnswer}
-use Rattle.tp_search.specs.tp_search.declared.found.Found.{Found}
-use Rattle.tp_search.specs.tp_search.declared.found.Found.TheVariants.{Plan, Unreachable, Exhausted, Spent}
+use Rattle.tp_search.specs.Answers.{IsAnswer}
+use Rattle.tp_search.specs.declared.found.Found.{Found}
+use Rattle.tp_search.specs.declared.found.Found.TheVariants.{Plan, Unreachable, Exhausted, Spent}
 use Rattle.tp_search.specs.tp_search_frontier.declared.fault.SearchFault.{SearchFault}
 use Rattle.tp_solve.specs.Sought.{IsSought}
 use Rattle.tp_solve.specs.declared.solving.Wishes.{Wishes}

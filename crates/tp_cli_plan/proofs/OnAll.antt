@@ -15,8 +15,8 @@ use Rattle.tp_happen.specs.tp_plan_text.TaskWords.{is_durative}
 use Rattle.tp_happen.specs.tp_plan_text.declared.plans.Step.{Step}
 use Rattle.tp_validate.specs.OfTask.{IsOfTask, IsValidPlan, is_step_of}
 use Rattle.tp_task.specs.TaskReach.{GoalIs}
-use Rattle.tp_search.specs.tp_search.Plans.{HasNoPlan, IsInstantStep, IsPlanAtOnce, DifferFrom, OfDistinctActions, ends_by}
-use Rattle.tp_search.specs.tp_search.Promised.{IsExhausted, IsSpent, IsUnreachable}
+use Rattle.tp_search.specs.Plans.{HasNoPlan, IsInstantStep, IsPlanAtOnce, DifferFrom, OfDistinctActions, ends_by}
+use Rattle.tp_search.specs.Promised.{IsExhausted, IsSpent, IsUnreachable}
 use Rattle.tp_ground_laws.specs.SamePlans.{IsSameStep, AreSameSteps, HaveSamePlans}
 
 module _ (t u : Task) where

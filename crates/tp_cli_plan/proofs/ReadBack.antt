@@ -24,7 +24,7 @@ use Rattle.tp_happen.specs.tp_plan_text.declared.reading.PlanFault.TheVariants.{
 use Rattle.tp_happen.specs.tp_plan_text.TaskWords.{action_of, readable}
 use Rattle.tp_happen.specs.tp_plan_text.declared.plans.Step.{Step}
 use Rattle.tp_validate.specs.OfTask.{IsOfTask, is_step_of}
-use Rattle.tp_search.specs.tp_search.Plans.{EndsBy, ends_by}
+use Rattle.tp_search.specs.Plans.{EndsBy, ends_by}
 
 -- the words of each action of a task that texts spell are names, by which it is found again: of the actions in reach, and of all
 abbrev pub ActionsAreReadable : Type 0

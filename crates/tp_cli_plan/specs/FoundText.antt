@@ -7,10 +7,10 @@ use Rattle.tp_happen.specs.tp_plan_text.Steps.{IsPlan}
 use Rattle.tp_happen.specs.tp_plan_text.TaskWords.{readable}
 use Rattle.tp_happen.specs.tp_plan_text.declared.plans.Step.{Step}
 use Rattle.tp_validate.specs.OfTask.{IsOfTask, IsValidPlan}
-use Rattle.tp_search.specs.tp_search.Plans.{EndsBy}
-use Rattle.tp_search.specs.tp_search.Promised.{IsExhausted, IsSpent, IsUnreachable}
-use Rattle.tp_search.specs.tp_search.declared.found.Found.{Found}
-use Rattle.tp_search.specs.tp_search.declared.found.Found.TheVariants.{Plan, Unreachable, Exhausted, Spent}
+use Rattle.tp_search.specs.Plans.{EndsBy}
+use Rattle.tp_search.specs.Promised.{IsExhausted, IsSpent, IsUnreachable}
+use Rattle.tp_search.specs.declared.found.Found.{Found}
+use Rattle.tp_search.specs.declared.found.Found.TheVariants.{Plan, Unreachable, Exhausted, Spent}
 
 -- the budget is told as spent, and no plan was found
 abbrev pub spent_line : ℕ → List ℕ

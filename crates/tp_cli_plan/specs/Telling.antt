@@ -2,7 +2,7 @@
 use Rattle.std.specs.Prelude.{◌≡◌, ℕ, List, Option, Bool}
 use Rattle.std.specs.Io.KnownBytes.{Appends}
 use Rattle.tp_device.specs.Bytes.{AppendsPart}
-use Rattle.tp_search.specs.tp_search.declared.found.Found.{Found}
+use Rattle.tp_search.specs.declared.found.Found.{Found}
 use Rattle.tp_cli_plan.specs.FoundText.{found_text, is_plan}
 use Rattle.tp_cli_plan.specs.declared.stops.SearchStop.{SearchStop}
 use Rattle.tp_cli_plan.specs.declared.stops.SearchStop.TheVariants.{Write}

@@ -2,7 +2,7 @@
 
 ghost use Rattle.std.specs.Prelude.{◌≡◌, ◌≢◌, ◌≤◌, ℕ, List, [], Option, IfOk, IfErr, IfSome, true, false};
 ghost use Rattle.tp_cli_files.specs.FaultLines.{TellsFault};
-ghost use Rattle.tp_search.specs.tp_search.Answers.{IsAnswer};
+ghost use Rattle.tp_search.specs.Answers.{IsAnswer};
 ghost use Rattle.tp_cli_plan.specs.FoundText.{IsFoundOfTask};
 ghost use Rattle.tp_cli_plan.specs.SearchStops.{EndsSearch, StopsSearch, stop_failures, stop_unread};
 ghost use Rattle.tp_cli_files.specs.Causes.{counted};

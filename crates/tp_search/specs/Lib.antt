@@ -8,5 +8,4 @@ pub mod Promised
 pub mod Rows
 pub mod Running
 pub mod Sides
-pub use Rattle.tp_search.specs as tp_search
 pub use Rattle.tp_search_frontier.specs as tp_search_frontier

@@ -3,7 +3,7 @@ use Rattle.std.specs.Prelude.{◌≡◌, ℕ}
 use Rattle.tp_task.specs.declared.task.Task.{Task}
 use Rattle.tp_validate.specs.OfTask.{IsValidPlan}
 use Rattle.tp_validate.specs.Validated.{Validated}
-use Rattle.tp_search.specs.tp_search.Plans.{EndsBy}
+use Rattle.tp_search.specs.Plans.{EndsBy}
 
 -- the plan is the task's, valid, and ends by the horizon
 abbrev pub IsSought : Task → ℕ → Validated → Type 0

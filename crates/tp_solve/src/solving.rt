@@ -3,7 +3,7 @@
 
 ghost use Rattle.std.specs.Prelude.{◌≡◌, true, false, IfOk, IfSome};
 ghost use Rattle.tp_task.specs.TaskReach.{GoalIs};
-ghost use Rattle.tp_search.specs.tp_search.Answers.{IsAnswer};
+ghost use Rattle.tp_search.specs.Answers.{IsAnswer};
 ghost use Rattle.tp_solve.specs.Sought.{IsSought};
 
 use crate::board::tell;
