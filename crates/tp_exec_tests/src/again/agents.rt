@@ -295,7 +295,7 @@ fn is_empty(alloc: Global) -> Result<bool, SplitFault> {
     let setting = Setting::new(alloc, 0, 7)?;
     let owners = read_owners(alloc, "")?;
     let split = split(alloc, &setting, &owners)?;
-    match joined(alloc, &split, &[])? {
+    match join_runs(alloc, &split, &[])? {
         Some(moments) => Ok(moments.is_empty()),
         None => Ok(false),
     }

@@ -72,39 +72,17 @@ fn plan_of(
 }
 
 /// The same over the network of a plan.
-fn plan_over(
-    alloc: Global,
-    plan: &ValidPlan<'_>,
-    limits: &Limits,
-    network: &PlanNet,
-    commands: &[Command],
-) -> Result<Option<Plan>, AllocError>
-    requires { IsPlanNetOf plan.now.task plan.now.steps limits.now network.now }
-{
-    match over(alloc, plan, limits, network)? {
-        Some(mut executive) => plan_of(alloc, plan, &mut executive, commands),
-        None => Ok(None),
-    }
-}
-
-/// The same; where a command wanted memory, another run of them.
 fn plan_found(
     alloc: Global,
     plan: &ValidPlan<'_>,
     limits: &Limits,
-    network: &PlanNet,
     commands: &[Command],
-) -> Result<Option<Plan>, AllocError>
-    requires { IsPlanNetOf plan.now.task plan.now.steps limits.now network.now }
-{
-    again!(plan_over(alloc, plan, limits, network, commands))
-}
-
-/// The network of a plan.
-fn network_of(alloc: Global, plan: &ValidPlan<'_>, limits: &Limits) -> Result<PlanNet, DeorderFault>
-    ensures { IfOk result (IsPlanNetOf plan.now.task plan.now.steps limits.now) }
-{
-    again!(deorder(alloc, plan, limits))
+) -> Result<Option<Plan>, DeorderFault> {
+    let network = deorder(alloc, plan, limits)?;
+    match over(alloc, plan, limits, &network)? {
+        Some(mut executive) => Ok(plan_of(alloc, plan, &mut executive, commands)?),
+        None => Ok(None),
+    }
 }
 
 /// A plan, commands of a run over its network, and the steps of the plan of that run, if there is
@@ -138,17 +116,11 @@ fn has_steps(plan: &Option<Plan>, told: Option<&[(u32, u32, u32)]>) -> bool {
     }
 }
 
-/// Whether the run over the network of a plan comes to that.
-fn is_so(alloc: Global, plan: &ValidPlan<'_>, limits: &Limits, run: Run) -> Result<bool, Fail> {
-    let network = network_of(alloc, plan, limits)?;
-    let found = plan_found(alloc, plan, limits, &network, run.commands)?;
-    Ok(has_steps(&found, run.steps))
-}
-
-/// The same of the plan's text.
+/// Whether the run over the network of a plan comes to that; where memory was refused, another one.
 fn comes_to(alloc: Global, task: &Task, run: Run) -> Result<bool, Fail> {
     let plan = valid_plan(alloc, task, run.plan)?;
-    is_so(alloc, &plan, &task.limits, run)
+    let found = again!(plan_found(alloc, &plan, &task.limits, run.commands))?;
+    Ok(has_steps(&found, run.steps))
 }
 
 fn comes_of(alloc: Global, run: Run) -> Result<bool, Fail> {
