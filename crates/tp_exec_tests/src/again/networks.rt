@@ -89,7 +89,9 @@ const LAST: [Command; 3] = [
 
 /// Whether now waits for a bound to be withdrawn.
 fn waits<N: Net>(executive: &mut Executive<N>) -> bool {
-    carries_out(executive, &FIRST)
+    executive.net().events() == 2
+        && executive.lag(0) == 3
+        && carries_out(executive, &FIRST)
         && matches!(
             answer(executive, Command::Advance(10)),
             Answer::Refused(Refusal::Conflict(_))

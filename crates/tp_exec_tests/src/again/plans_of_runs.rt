@@ -85,12 +85,24 @@ fn plan_found(
     }
 }
 
-/// A plan, commands of a run over its network, and the steps of the plan of that run, if there is
+/// Whether the first event of a plan's network is called so.
+fn begins_with(
+    alloc: Global,
+    plan: &ValidPlan<'_>,
+    limits: &Limits,
+    text: &str,
+) -> Result<bool, DeorderFault> {
+    let network = deorder(alloc, plan, limits)?;
+    Ok(0 < network.events.len() && network.event_text(0) == text)
+}
+
+/// A plan, what its first event is called, commands of a run over its network, and the steps of the plan of that run, if there is
 /// one: the tick, the number of the action and the duration of each.
 #[derive(Clone, Copy)]
 struct Run {
     world: World<'static>,
     plan: &'static str,
+    first: &'static str,
     commands: &'static [Command],
     steps: Option<&'static [(u32, u32, u32)]>,
 }
@@ -119,6 +131,9 @@ fn has_steps(plan: &Option<Plan>, told: Option<&[(u32, u32, u32)]>) -> bool {
 /// Whether the run over the network of a plan comes to that; where memory was refused, another one.
 fn comes_to(alloc: Global, task: &Task, run: Run) -> Result<bool, Fail> {
     let plan = valid_plan(alloc, task, run.plan)?;
+    if !again!(begins_with(alloc, &plan, &task.limits, run.first))? {
+        return Ok(false);
+    }
     let found = again!(plan_found(alloc, &plan, &task.limits, run.commands))?;
     Ok(has_steps(&found, run.steps))
 }
@@ -135,6 +150,7 @@ const RUNS: [Run; 5] = [
     Run {
         world: FUSES,
         plan: MENDED,
+        first: "start 0 (light-match m1)",
         commands: &[
             Command::Advance(2),
             Command::Dispatch(0),
@@ -151,6 +167,7 @@ const RUNS: [Run; 5] = [
     Run {
         world: FUSES,
         plan: MENDED,
+        first: "start 0 (light-match m1)",
         commands: &[
             Command::Dispatch(0),
             Command::Dispatch(2),
@@ -163,6 +180,7 @@ const RUNS: [Run; 5] = [
     Run {
         world: CHARGES,
         plan: "0: (rest) [4]",
+        first: "start 0 (rest)",
         commands: &[
             Command::Withdraw(BoundId(0)),
             Command::Dispatch(0),
@@ -175,6 +193,7 @@ const RUNS: [Run; 5] = [
     Run {
         world: SWITCHES,
         plan: "0: (watch) [5]\n2: (give)\n3: (drop)",
+        first: "start 0 (watch)",
         commands: &[
             Command::Dispatch(0),
             Command::Advance(1),
@@ -189,6 +208,7 @@ const RUNS: [Run; 5] = [
     Run {
         world: TANKS,
         plan: "1: (fill-a)\n1: (fill-b)",
+        first: "at 0 (fill-a)",
         commands: &[
             Command::Dispatch(1),
             Command::Advance(7),
