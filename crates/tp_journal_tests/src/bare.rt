@@ -8,8 +8,8 @@ use tp_cli_files::HostFile;
 /// The name of the journal.
 const LOG: &str = "night.log";
 
-/// What comes of a run: its exit status, and what it writes to its output, to its faults, and to its
-/// journal, if one was kept.
+/// What comes of a run: its exit status, and what it writes to its output, to its faults, and to
+/// its journal, if one was kept.
 type Outcome = (u8, Vec<u8>, Vec<u8>, Option<Vec<u8>>);
 
 fn input_of(text: &str) -> HostFile<Feed<'_>> {
@@ -86,7 +86,8 @@ const NIGHT: &str = "network 2 100\nadd o 0 10\nwindow 0\n";
 
 const LAGGING: &str = "network 3 10\nlag 0 3\nlag 1 0\nlag 2 4\nadvance 4\n\nwindo 0\n";
 
-/// An input, the room of the output and of the journal, if one can be made, and what a run comes to.
+/// An input, the room of the output and of the journal, if one can be made, and what a run comes
+/// to.
 type Row = (&'static str, usize, Option<usize>, Told);
 
 const JOURNALED: [Row; 4] = [

@@ -18,8 +18,8 @@ use tp_text::Scale;
 /// An event of an action without objects: its name, which event it is, and the ticks of its step.
 type Named = (&'static str, Part, u32);
 
-/// What a happening comes to: the atoms that are true then, the value of the first fluent, the first
-/// fault, or a number past the limit.
+/// What a happening comes to: the atoms that are true then, the value of the first fluent, the
+/// first fault, or a number past the limit.
 #[derive(Clone, Copy)]
 enum Then {
     Atoms(&'static str),

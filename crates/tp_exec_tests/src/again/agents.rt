@@ -1,4 +1,5 @@
-//! Owners, a setting that is split between two agents, and their parts, carried out apart and joined.
+//! Owners, a setting that is split between two agents, and their parts, carried out apart and
+//! joined.
 
 ghost use Rattle.std.specs.Prelude.{◌≡◌, ◌≤◌, List, length, IfOk, IfSome};
 ghost use Rattle.tp_bounds.specs.RunLimits.{RunLimits};

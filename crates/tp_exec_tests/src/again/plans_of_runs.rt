@@ -96,8 +96,8 @@ fn begins_with(
     Ok(0 < network.events.len() && network.event_text(0) == text)
 }
 
-/// A plan, what its first event is called, commands of a run over its network, and the steps of the plan of that run, if there is
-/// one: the tick, the number of the action and the duration of each.
+/// A plan, what its first event is called, commands of a run over its network, and the steps of the
+/// plan of that run, if there is one: the tick, the number of the action and the duration of each.
 #[derive(Clone, Copy)]
 struct Run {
     world: World<'static>,
