@@ -263,6 +263,16 @@ COUNTED = (
     ("1: (pause) [2]\n2: (up)\n3: (up)\n", CALL, "invalid 3 goal\n"),
 )
 
+# more events at one tick than are compared in pairs
+CROWDED = (
+    (20 * "1: (grow)\n", CALL, "invalid 1 goal\n"),
+    (20 * "1: (set)\n", CALL, "invalid 1 interferes 0 1\n"),
+    (17 * "1: (grow)\n" + "1: (set)\n1: (up)\n", CALL, "invalid 1 interferes 0 18\n"),
+    (2 * "1: (look)\n" + 16 * "1: (up)\n" + "1: (set)\n", CALL, "invalid 1 condition 0\n"),
+    ("1: (grow)\n" + 16 * "1: (up)\n" + "1: (set)\n", CALL, "invalid 1 interferes 0 1\n"),
+    (16 * "1: (up)\n" + "1: (set)\n", CALL, "invalid 1 interferes 0 16\n"),
+)
+
 PLANS = (
     ("0: (charge)\n", CALL, "fault plan 6 no-duration 1\n"),
     ("x: (rest) [2]\n", CALL, "fault plan 2 line 1\n"),
@@ -375,6 +385,7 @@ class Check(Case):
 
     def test_the_first_fault_of_a_tick_is_told(self):
         self.each_writes(COUNTER, COUNTED)
+        self.each_writes(COUNTER, CROWDED)
 
     @many_calls
     def test_a_plan_of_512_steps(self):
@@ -418,6 +429,16 @@ class Check(Case):
     def test_of_any_number_of_bindings_those_are_judged_that_a_plan_names(self):
         self.writes(LARGE, "0: (a {})\n".format(" ".join("xy" * 8 + "x")), CALL, "valid\n")
         self.writes(LARGE, "0: (a {})\n".format(" ".join("xy" * 8)), CALL, "fault plan 3 no-action 1\n")
+
+    @many_calls
+    def test_many_variables_take_no_deep_stack(self):
+        variables = " ".join(f"?x{number}" for number in range(4_000)) + " - van"
+        domain = "(define (domain d) (:types van) (:constants v - van) (:predicates (p)) (:action go :parameters ({}) :precondition {} :effect ()))"
+        problem = "(define (problem q) (:domain d) (:init (p)) (:goal (p)))"
+        with self.subTest("of an action"):
+            self.writes((domain.format(variables, "(p)"), problem), f"0: (go{4_000 * ' v'})\n", CALL, "valid\n")
+        with self.subTest("of a quantifier"):
+            self.writes((domain.format("", f"(forall ({variables}) (p))"), problem), "0: (go)\n", CALL, "valid\n")
 
     @many_calls
     def test_tasks_that_are_too_large(self):

@@ -1,12 +1,11 @@
 //! The network of a plan, made once more.
 
-ghost use Rattle.std.specs.Prelude.{◌≤◌};
 ghost use Rattle.tp_validate.specs.OfTask.{IsOfTask};
 
 use crate::sources::{PlanTexts, lowered, texts_of};
 use std::alloc::{AllocError, Global};
 use tp_agents::read_owners;
-use tp_bounds::{Bound, Limits, PlanNet};
+use tp_bounds::{Bound, Limits, MOST_HORIZON, PlanNet};
 use tp_cli_files::{Files, open_text};
 use tp_cli_inputs::{NamedPlan, PlanWords, plan_in, verdict_of};
 use tp_deorder::deorder;
@@ -18,10 +17,8 @@ use tp_text::Scale;
 use tp_validate::{ValidPlan, Verdict};
 
 /// The network of a valid plan.
-fn network_of(alloc: Global, plan: &ValidPlan<'_>, horizon: u32) -> Option<PlanNet>
-    requires { horizon ≤ 1000000000 }
-{
-    match deorder(alloc, plan, &Limits::greatest(horizon)) {
+fn network_of(alloc: Global, plan: &ValidPlan<'_>, horizon: u32) -> Option<PlanNet> {
+    match deorder(alloc, plan, &Limits::greatest(horizon.min(MOST_HORIZON))) {
         Ok(network) => Some(network),
         Err(_) => None,
     }
@@ -29,8 +26,7 @@ fn network_of(alloc: Global, plan: &ValidPlan<'_>, horizon: u32) -> Option<PlanN
 
 /// The network of a plan of a task, where it is valid.
 fn network_for(alloc: Global, task: &Task, plan: Plan, horizon: u32) -> Option<PlanNet>
-    requires limit { horizon ≤ 1000000000 }
-    requires of_task { IsOfTask task.now plan }
+    requires { IsOfTask task.now plan }
 {
     match verdict_of(alloc, task, plan) {
         Ok(Verdict::Valid(plan)) => network_of(alloc, &plan, horizon),
@@ -43,9 +39,14 @@ pub(crate) fn network_in<N: Files>(
     alloc: Global,
     files: &mut N,
     words: PlanWords<'_>,
-) -> Option<PlanNet>
-    requires { words.horizon ≤ 1000000000 }
-{
+) -> Option<PlanNet> {
+    let words = PlanWords {
+        domain: words.domain,
+        problem: words.problem,
+        plan: words.plan,
+        scale: words.scale,
+        horizon: words.horizon.min(MOST_HORIZON),
+    };
     match plan_in(alloc, files, words) {
         Ok(named) => {
             let NamedPlan { task, plan } = named;
@@ -85,9 +86,7 @@ pub(crate) fn begin_run<N: Files>(
     watch: &mut Watch,
     files: &mut N,
     words: PlanWords<'_>,
-) -> Result<(), AllocError>
-    requires { words.horizon ≤ 1000000000 }
-{
+) -> Result<(), AllocError> {
     let Some(network) = network_in(alloc, files, words) else {
         return Ok(());
     };
@@ -134,9 +133,7 @@ pub(crate) fn tell_net<N: Files>(
     page: &mut Page,
     files: &mut N,
     words: PlanWords<'_>,
-) -> Result<(), AllocError>
-    requires { words.horizon ≤ 1000000000 }
-{
+) -> Result<(), AllocError> {
     let Some(network) = network_in(page.alloc(), files, words) else {
         return Ok(());
     };
@@ -177,9 +174,7 @@ pub(crate) fn tell_part<N: Files>(
     words: PlanWords<'_>,
     owners: &str,
     agent: u32,
-)
-    requires { words.horizon ≤ 1000000000 }
-{
+) {
     if let Some(network) = network_in(page.alloc(), files, words) {
         if let Ok(text) = open_text(page.alloc(), files, owners) {
             tell_owned(page, &network, text.as_str(), agent);

@@ -224,6 +224,13 @@ fn has_window(executive: &Executive<RepairNet>, low: u32, high: u32) -> bool {
     matches!(executive.window(0), Ok(window) if window == (low, high))
 }
 
+/// The same of executives, in turn.
+fn have_windows(executives: &[Executive<RepairNet>], windows: &[(u32, u32)]) -> bool {
+    executives.iter().zip(windows).all(|(executive, window)| has_window(
+        executive, window.0, window.1,
+    ))
+}
+
 /// Whether two executives begin within their intervals, and are done after these commands.
 fn are_done(
     alloc: Global,
@@ -237,7 +244,7 @@ fn are_done(
     let mut executives = [first, second];
     match perform_each(alloc, executives.as_mut_slice(), commands) {
         Ok(answers) if had_memory(&answers) => {
-            Ok(has_window(&executives[0], 0, 0) && has_window(&executives[1], 7, 7))
+            Ok(have_windows(executives.as_slice(), &[(0, 0), (7, 7)]))
         }
         _ => Err(AllocError),
     }
@@ -296,7 +303,7 @@ fn is_empty(alloc: Global) -> Result<bool, SplitFault> {
     let setting = Setting::new(alloc, 0, 7)?;
     let owners = read_owners(alloc, "")?;
     let split = split(alloc, &setting, &owners)?;
-    match joined(alloc, &split, &[])? {
+    match join_runs(alloc, &split, &[])? {
         Some(moments) => Ok(moments.is_empty()),
         None => Ok(false),
     }

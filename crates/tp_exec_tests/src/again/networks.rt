@@ -7,22 +7,21 @@ use tp_exec_machine::{Answer, Command, Executive, Refusal, perform};
 use tp_net::{Net, ScratchNet};
 use tp_repair::RepairNet;
 
-/// Two events, the second at least two ticks after the first. Where memory is refused to the bound,
-/// the setting is as before, and it is put once more.
+/// Two events, the second at least two ticks after the first.
 fn two_apart(alloc: Global) -> Result<Setting, AllocError> {
-    let mut setting = again!(Setting::new(alloc, 2, 10))?;
+    let mut setting = Setting::new(alloc, 2, 10)?;
     let bound = Bound {
         from: Point::Event(1),
         to: Point::Event(0),
         w: -2,
     };
-    again!(setting.put(BoundId(0), bound))?;
+    setting.put(BoundId(0), bound)?;
     Ok(setting)
 }
 
 #[test]
 fn a_setting_of_two_events(rt: HostRuntime) -> Result<(), Fail> {
-    let setting = two_apart(rt.alloc())?;
+    let setting = again!(two_apart(rt.alloc()))?;
     assert!(rt; check_schedule(&setting, &[0, 2]) == Ok(()));
     assert!(rt; check_schedule(&setting, &[0, 1]) == Err(Broken::Bound(BoundId(0))));
     Ok(())
@@ -89,7 +88,9 @@ const LAST: [Command; 3] = [
 
 /// Whether now waits for a bound to be withdrawn.
 fn waits<N: Net>(executive: &mut Executive<N>) -> bool {
-    carries_out(executive, &FIRST)
+    executive.net().events() == 2
+        && executive.lag(0) == 3
+        && carries_out(executive, &FIRST)
         && matches!(
             answer(executive, Command::Advance(10)),
             Answer::Refused(Refusal::Conflict(_))

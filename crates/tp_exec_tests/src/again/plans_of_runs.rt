@@ -72,47 +72,37 @@ fn plan_of(
 }
 
 /// The same over the network of a plan.
-fn plan_over(
-    alloc: Global,
-    plan: &ValidPlan<'_>,
-    limits: &Limits,
-    network: &PlanNet,
-    commands: &[Command],
-) -> Result<Option<Plan>, AllocError>
-    requires { IsPlanNetOf plan.now.task plan.now.steps limits.now network.now }
-{
-    match over(alloc, plan, limits, network)? {
-        Some(mut executive) => plan_of(alloc, plan, &mut executive, commands),
-        None => Ok(None),
-    }
-}
-
-/// The same; where a command wanted memory, another run of them.
 fn plan_found(
     alloc: Global,
     plan: &ValidPlan<'_>,
     limits: &Limits,
-    network: &PlanNet,
     commands: &[Command],
-) -> Result<Option<Plan>, AllocError>
-    requires { IsPlanNetOf plan.now.task plan.now.steps limits.now network.now }
-{
-    again!(plan_over(alloc, plan, limits, network, commands))
+) -> Result<Option<Plan>, DeorderFault> {
+    let network = deorder(alloc, plan, limits)?;
+    match over(alloc, plan, limits, &network)? {
+        Some(mut executive) => Ok(plan_of(alloc, plan, &mut executive, commands)?),
+        None => Ok(None),
+    }
 }
 
-/// The network of a plan.
-fn network_of(alloc: Global, plan: &ValidPlan<'_>, limits: &Limits) -> Result<PlanNet, DeorderFault>
-    ensures { IfOk result (IsPlanNetOf plan.now.task plan.now.steps limits.now) }
-{
-    again!(deorder(alloc, plan, limits))
+/// Whether the first event of a plan's network is called so.
+fn begins_with(
+    alloc: Global,
+    plan: &ValidPlan<'_>,
+    limits: &Limits,
+    text: &str,
+) -> Result<bool, DeorderFault> {
+    let network = deorder(alloc, plan, limits)?;
+    Ok(0 < network.events.len() && network.event_text(0) == text)
 }
 
-/// A plan, commands of a run over its network, and the steps of the plan of that run, if there is
-/// one: the tick, the number of the action and the duration of each.
+/// A plan, what its first event is called, commands of a run over its network, and the steps of the
+/// plan of that run, if there is one: the tick, the number of the action and the duration of each.
 #[derive(Clone, Copy)]
 struct Run {
     world: World<'static>,
     plan: &'static str,
+    first: &'static str,
     commands: &'static [Command],
     steps: Option<&'static [(u32, u32, u32)]>,
 }
@@ -138,17 +128,14 @@ fn has_steps(plan: &Option<Plan>, told: Option<&[(u32, u32, u32)]>) -> bool {
     }
 }
 
-/// Whether the run over the network of a plan comes to that.
-fn is_so(alloc: Global, plan: &ValidPlan<'_>, limits: &Limits, run: Run) -> Result<bool, Fail> {
-    let network = network_of(alloc, plan, limits)?;
-    let found = plan_found(alloc, plan, limits, &network, run.commands)?;
-    Ok(has_steps(&found, run.steps))
-}
-
-/// The same of the plan's text.
+/// Whether the run over the network of a plan comes to that; where memory was refused, another one.
 fn comes_to(alloc: Global, task: &Task, run: Run) -> Result<bool, Fail> {
     let plan = valid_plan(alloc, task, run.plan)?;
-    is_so(alloc, &plan, &task.limits, run)
+    if !again!(begins_with(alloc, &plan, &task.limits, run.first))? {
+        return Ok(false);
+    }
+    let found = again!(plan_found(alloc, &plan, &task.limits, run.commands))?;
+    Ok(has_steps(&found, run.steps))
 }
 
 fn comes_of(alloc: Global, run: Run) -> Result<bool, Fail> {
@@ -163,6 +150,7 @@ const RUNS: [Run; 5] = [
     Run {
         world: FUSES,
         plan: MENDED,
+        first: "start 0 (light-match m1)",
         commands: &[
             Command::Advance(2),
             Command::Dispatch(0),
@@ -179,6 +167,7 @@ const RUNS: [Run; 5] = [
     Run {
         world: FUSES,
         plan: MENDED,
+        first: "start 0 (light-match m1)",
         commands: &[
             Command::Dispatch(0),
             Command::Dispatch(2),
@@ -191,6 +180,7 @@ const RUNS: [Run; 5] = [
     Run {
         world: CHARGES,
         plan: "0: (rest) [4]",
+        first: "start 0 (rest)",
         commands: &[
             Command::Withdraw(BoundId(0)),
             Command::Dispatch(0),
@@ -203,6 +193,7 @@ const RUNS: [Run; 5] = [
     Run {
         world: SWITCHES,
         plan: "0: (watch) [5]\n2: (give)\n3: (drop)",
+        first: "start 0 (watch)",
         commands: &[
             Command::Dispatch(0),
             Command::Advance(1),
@@ -217,6 +208,7 @@ const RUNS: [Run; 5] = [
     Run {
         world: TANKS,
         plan: "1: (fill-a)\n1: (fill-b)",
+        first: "at 0 (fill-a)",
         commands: &[
             Command::Dispatch(1),
             Command::Advance(7),

@@ -1,14 +1,12 @@
 //! What is told of a task, and states.
 
 ghost use Rattle.std.specs.Prelude.{◌≡◌, true, IfOk};
-ghost use Rattle.std.specs.List.{list_all};
-ghost use Rattle.tp_happen.specs.Stored.{fits_in};
 ghost use Rattle.tp_exec_tests.specs.OfTask.{has_event};
 
 use crate::again::worlds::{kept_of, task_of};
 use std::alloc::Global;
 use std::test::Fail;
-use tp_happen::{ApplyFault, EventRef, Outcome, Part, State, apply, event};
+use tp_happen::{EventRef, Outcome, Part, State, apply, event};
 use tp_task::{ActionId, AtomId, FluentId, Task};
 use tp_testkit_tasks::{CHARGES, FUSES, SWITCHES, TANKS, World};
 
@@ -47,22 +45,8 @@ fn event_of<'t>(task: &'t Task, name: &str, part: Part, ticks: u32) -> Result<Ev
     Ok(EventRef::new(one, ticks))
 }
 
-/// The value of the first fluent behind a happening, if that is possible.
+/// The value of the first fluent behind one event in the initial state, if that is possible.
 fn value_after(
-    alloc: Global,
-    state: &State,
-    events: &[EventRef<'_>],
-) -> Result<Option<i64>, ApplyFault>
-    requires { list_all (fits_in state.now) events.now ≡ true }
-{
-    match apply(alloc, state, events)? {
-        Outcome::Next(next) => Ok(next.number(FluentId(0))),
-        Outcome::Fails(_, _) => Ok(None),
-    }
-}
-
-/// The same behind one event in the initial state.
-fn value_after_one(
     alloc: Global,
     task: &Task,
     name: &str,
@@ -71,7 +55,10 @@ fn value_after_one(
 ) -> Result<Option<i64>, Fail> {
     let state = again!(State::initial(alloc, task))?;
     let events = [event_of(task, name, part, ticks)?];
-    Ok(again!(value_after(alloc, &state, &events))?)
+    match again!(apply(alloc, &state, &events))? {
+        Outcome::Next(next) => Ok(next.number(FluentId(0))),
+        Outcome::Fails(_, _) => Ok(None),
+    }
 }
 
 fn gives(
@@ -82,7 +69,7 @@ fn gives(
     ticks: u32,
 ) -> Result<Option<i64>, Fail> {
     let task = task_of(alloc, world)?;
-    value_after_one(alloc, &task, name, part, ticks)
+    value_after(alloc, &task, name, part, ticks)
 }
 
 #[test]
