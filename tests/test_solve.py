@@ -96,7 +96,7 @@ PLACES = f"""(define (problem p) (:domain rides) (:objects {" ".join(f"o{i}" for
 RIDDEN = "0: (ride o0 o1 o0) [3]\n4: (ride o1 o2 o0) [3]\n"
 
 # the same without roads, so that each ride may be of use
-FLIGHTS = RIDES.replace("(road ?x ?y ?z)", "").replace("(at start (road ?x ?y ?z))", "")
+FLIGHTS = RIDES.replace("(at start (road ?x ?y ?z))", "").replace("(road ?x ?y ?z)", "")
 
 AIRPORTS = re.sub(r" \(road [^)]*\)", "", PLACES)
 
