@@ -10,7 +10,7 @@ use Rattle.tp_task.specs.declared.events.GroundEvent.{GroundEvent}
 use Rattle.tp_task.specs.Readable.{AreReadable}
 use Rattle.tp_task.specs.Tables.{words_at}
 use Rattle.tp_task.specs.Words.{same_words}
-use Rattle.tp_happen.specs.tp_plan_text.Steps.{IsPlan, ends_in_time}
+use Rattle.tp_happen.specs.tp_plan_text.Steps.{ends_in_time}
 use Rattle.tp_happen.specs.tp_plan_text.TaskWords.{is_durative}
 use Rattle.tp_happen.specs.tp_plan_text.declared.plans.Step.{Step}
 use Rattle.tp_validate.specs.OfTask.{IsOfTask, IsValidPlan, is_step_of}

@@ -1,4 +1,3 @@
-use Rattle.std.proofs.lemmas.Result.{IfErr-weaker}
 use Rattle.tp_cli_plan.proofs.JoinedLemmas.{proposed, proposal_stops}
 use Rattle.tp_cli_plan.proofs.planning.tell_plan.Goals as goal
 
