@@ -48,10 +48,10 @@ Says task budget horizon found false = IsNoPlanLine task budget (found_text foun
 
 -- the line that says why there is none
 pub none_said : (task : Task) (budget horizon : ℕ) (found : Found) → IsAnswer task budget horizon found → is_plan found ≡ false → IsNoPlanLine task budget (found_text found)
-none_said task budget horizon (Plan plan) answer lacking = absurd (let none : ⊥ = cc in none)
-none_said task budget horizon Unreachable answer lacking = inl (answer, refl)
-none_said task budget horizon Exhausted answer lacking = inr (inl (answer, refl))
-none_said task budget horizon (Spent n) answer lacking =
+none_said task budget horizon (Plan plan) answer none_found = absurd (let none : ⊥ = cc in none)
+none_said task budget horizon Unreachable answer none_found = inl (answer, refl)
+none_said task budget horizon Exhausted answer none_found = inr (inl (answer, refl))
+none_said task budget horizon (Spent n) answer none_found =
     inr (inr (record { in_reach = answer.in_reach; not_empty = answer.not_empty; all_of_it = refl }, ap spent_line answer.all_of_it))
 
 -- ---- the text of a plan

@@ -109,8 +109,8 @@ module _ (read : PlansAreRead) (all_readable : AllAreReadable) (chosen_readable 
     searched = subst (λ (o : Order). IsSearched o limits w.scale d p task) (sym order) (inr whole)
 
     none : (found : Found) (before now : Option (List ℕ)) (planned : Bool) → is_plan found ≡ false → IsAnswer task w.budget w.horizon found → TellsFound found before now planned → Searches held w before now planned
-    none found before now planned lacking answer told =
-        subst (Searches held w before now) (sym (told.0 ∙ lacking))
+    none found before now planned is_none answer told =
+        subst (Searches held w before now) (sym (told.0 ∙ is_none))
         (inr (record {
           wishes = wishes;
           order = order;
@@ -120,7 +120,7 @@ module _ (read : PlansAreRead) (all_readable : AllAreReadable) (chosen_readable 
           problem = p;
           are_named = are;
           task_of = whole;
-          why = none_said task w.budget w.horizon found answer lacking;
+          why = none_said task w.budget w.horizon found answer is_none;
           of_all = λ all is. whole_plans are.0.0 are.1.0 d p limits limits w.scale all task are.0.2 are.1.2 is whole;
           written = told.1;
         }))
@@ -133,7 +133,7 @@ module _ (read : PlansAreRead) (all_readable : AllAreReadable) (chosen_readable 
     searches (Spent n) before now planned answer of_task told = none (Spent n) before now planned refl answer told
 
     none_stops : (found : Found) (before now : Option (List ℕ)) (stop : SearchStop) → is_plan found ≡ false → IsAnswer task w.budget w.horizon found → StopsTelling found before now stop → StopsSearch held w before now stop
-    none_stops found before now stop lacking answer told =
+    none_stops found before now stop is_none answer told =
         subst (StopsSearch held w before now) (sym told.0)
         (record {
           task = task;
@@ -141,7 +141,7 @@ module _ (read : PlansAreRead) (all_readable : AllAreReadable) (chosen_readable 
           domain = d;
           problem = p;
           are_named = are;
-          is = inr (searched, none_said task w.budget w.horizon found answer lacking);
+          is = inr (searched, none_said task w.budget w.horizon found answer is_none);
           part = told.1;
         })
 

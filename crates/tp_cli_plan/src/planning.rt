@@ -231,7 +231,7 @@ fn propose_of<B: Write, O: Sink>(
 }
 
 /// Searches for a plan of a task that has each action that a valid plan may have, and writes it, or
-/// why there is none.
+/// why there is none. Answers whether it found one.
 fn solve_whole<B: Write, O: Sink>(
     alloc: Global,
     words: SearchWords<'_>,
@@ -239,11 +239,11 @@ fn solve_whole<B: Write, O: Sink>(
     task: &Task,
     board: &mut B,
     output: &mut O,
-) -> Result<Part, SearchStop>
+) -> Result<bool, SearchStop>
     requires limit { words.horizon ≤ 1000000000 }
     requires order { words.order ≡ Guided wishes }
     ensures said { (held : List ℕ → Option (List ℕ)) → IsWholeOf held words.entry task.now
-        → IfOk result (IsPart held words.entry (O.held output.old) (O.held output.new)) }
+        → IfOk result (Searches held words.entry (O.held output.old) (O.held output.new)) }
     ensures cause { (held : List ℕ → Option (List ℕ)) → IsWholeOf held words.entry task.now
         → IfErr result (StopsSearch held words.entry (O.held output.old) (O.held output.new)) }
     ensures failures { O.failures output.new ≡ stop_failures (O.failures output.old) result }
@@ -257,10 +257,7 @@ fn solve_whole<B: Write, O: Sink>(
     plans_of_some_are_plans();
     whole_tasks_have_all_plans();
     match found_in(alloc, words, task, None, board) {
-        Ok(found) => match tell(&found, output) {
-            Ok(planned) => Ok(Part::Answered(planned)),
-            Err(stop) => Err(stop),
-        },
+        Ok(found) => tell(&found, output),
         Err(fault) => Err(SearchStop::Searching(fault)),
     }
 }
@@ -287,7 +284,10 @@ fn plan_some<B: Write, O: Sink>(
     ensures quiet { wishes.progress ≡ false → board.new ≡ board.old }
 {
     if joined.is_whole {
-        solve_whole(alloc, words, wishes, &joined.task, board, output)
+        match solve_whole(alloc, words, wishes, &joined.task, board, output) {
+            Ok(planned) => Ok(Part::Answered(planned)),
+            Err(stop) => Err(stop),
+        }
     } else {
         propose_of(alloc, words, wishes, &joined.task, board, output)
     }
