@@ -14,20 +14,20 @@ pub returns-in-Err-Memory-clause-stopped : goal.returns-in-Err-Memory-clause-sto
 returns-in-Err-Memory-clause-stopped g c =
     λ two.
     inr (inl (record {
-      three = c.complain.ensures.status ∙ c.out_of_order.ensures.status;
+      three = c.complain.ensures.status ∙ c.line.ensures.status;
       kept = refl;
       same = refl;
-      told = subst (λ (t : List ℕ). Tells t (g.F.Sink.failures c.args.faults.now) (g.F.Sink.held c.args.faults.now) (g.F.Sink.failures c.complain.new.faults) (g.F.Sink.held c.complain.new.faults)) c.out_of_order.ensures.text c.complain.ensures.told;
+      told = subst (λ (t : List ℕ). Tells t (g.F.Sink.failures c.args.faults.now) (g.F.Sink.held c.args.faults.now) (g.F.Sink.failures c.complain.new.faults) (g.F.Sink.held c.complain.new.faults)) c.line.ensures.text c.complain.ensures.told;
     }))
 
 pub returns-in-Err-Memory-clause-bare : goal.returns-in-Err-Memory-clause-bare
 returns-in-Err-Memory-clause-bare g c =
     λ asks no.
     inr (record {
-      three = c.complain.ensures.status ∙ c.out_of_order.ensures.status;
+      three = c.complain.ensures.status ∙ c.line.ensures.status;
       kept = refl;
       same = refl;
-      told = subst (λ (t : List ℕ). Tells t (g.F.Sink.failures c.args.faults.now) (g.F.Sink.held c.args.faults.now) (g.F.Sink.failures c.complain.new.faults) (g.F.Sink.held c.complain.new.faults)) c.out_of_order.ensures.text c.complain.ensures.told;
+      told = subst (λ (t : List ℕ). Tells t (g.F.Sink.failures c.args.faults.now) (g.F.Sink.held c.args.faults.now) (g.F.Sink.failures c.complain.new.faults) (g.F.Sink.held c.complain.new.faults)) c.line.ensures.text c.complain.ensures.told;
     })
 
 pub returns-in-Err-Memory-clause-broken : goal.returns-in-Err-Memory-clause-broken

@@ -7,7 +7,7 @@ pub returns-in-Err-clause-stopped : goal.returns-in-Err-clause-stopped
 returns-in-Err-clause-stopped g c =
     λ no.
     record {
-      three = c.complain.ensures.status ∙ c.out_of_order.ensures.status;
+      three = c.complain.ensures.status ∙ c.line.ensures.status;
       part = subst (λ (t : List ℕ). AppendsPart (g.O.Sink.held c.args.output.now) (g.O.Sink.held c.push_all.new.writer) t) c.as_bytes.ensures.value c.in-Err.ensures.bytes;
-      told = subst (λ (t : List ℕ). Tells t (g.F.Sink.failures c.args.faults.now) (g.F.Sink.held c.args.faults.now) (g.F.Sink.failures c.complain.new.faults) (g.F.Sink.held c.complain.new.faults)) c.out_of_order.ensures.text c.complain.ensures.told;
+      told = subst (λ (t : List ℕ). Tells t (g.F.Sink.failures c.args.faults.now) (g.F.Sink.held c.args.faults.now) (g.F.Sink.failures c.complain.new.faults) (g.F.Sink.held c.complain.new.faults)) c.line.ensures.text c.complain.ensures.told;
     }
