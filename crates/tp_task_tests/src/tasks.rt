@@ -120,7 +120,10 @@ const TOLD: [Told; 4] = [
 
 fn tells(task: &Task, atoms: usize, actions: &[&str]) -> Result<bool, AllocError> {
     for (number, text) in actions.iter().enumerate() {
-        let told = task.action_text(ActionId(number as u32))?;
+        let Ok(number) = u32::try_from(number) else {
+            return Ok(false);
+        };
+        let told = task.action_text(ActionId(number))?;
         if told.as_str() != *text {
             return Ok(false);
         }
@@ -192,9 +195,13 @@ fn joined(
     problem: &Problem,
     limits: &Limits,
 ) -> Option<(usize, bool)> {
-    let begun = begin(alloc, domain, problem, limits).ok()?;
-    let joined = ground_joined(alloc, domain, problem, begun, limits, Scale::One).ok()?;
-    Some((joined.task.actions.len(), joined.is_whole))
+    match begin(alloc, domain, problem, limits) {
+        Ok(begun) => match ground_joined(alloc, domain, problem, begun, limits, Scale::One) {
+            Ok(joined) => Some((joined.task.actions.len(), joined.is_whole)),
+            Err(_) => None,
+        },
+        Err(_) => None,
+    }
 }
 
 fn kept(alloc: Global, actions: u32) -> Result<Option<(usize, bool)>, Fail> {

@@ -6,4 +6,4 @@ use Rattle.tp_net_tests.proofs.lists.repaired.Goals as goal
 
 pub bare-requires-clause-fresh : goal.bare-requires-clause-fresh
 bare-requires-clause-fresh c =
-    subst IsFresh (sym (c.set_lag.ensures ∙ ap (λ s. with_lag s 3 9) c.in_ok-net.ensures.setting)) (fresh_lagged _ 3 9 (fresh_new 6 60))
+    subst IsFresh (sym (c.set_lag.ensures.set ∙ ap (λ s. with_lag s 3 9) c.in_ok-net.ensures.setting)) (fresh_lagged _ 3 9 (fresh_new 6 60))
