@@ -6,4 +6,4 @@ use Rattle.tp_exec_tests.proofs.again.networks.repaired.Goals as goal
 
 pub bare-requires-clause-fresh : goal.bare-requires-clause-fresh
 bare-requires-clause-fresh c =
-    subst IsFresh (sym (c.set_lag.ensures ∙ ap (λ s. with_lag s 0 3) c.in_ok-net.ensures.setting)) (fresh_lagged _ 0 3 (fresh_new 2 100))
+    subst IsFresh (sym (c.set_lag.ensures.set ∙ ap (λ s. with_lag s 0 3) c.in_ok-net.ensures.setting)) (fresh_lagged _ 0 3 (fresh_new 2 100))
