@@ -54,12 +54,12 @@ fn whole_task(
     limits: &Limits,
     scale: Scale,
 ) -> Option<Task> {
-    let begun = begin(alloc, domain, problem, limits).ok()?;
-    let joined = ground_joined(alloc, domain, problem, begun, limits, scale).ok()?;
-    if joined.is_whole {
-        Some(joined.task)
-    } else {
-        None
+    match begin(alloc, domain, problem, limits) {
+        Ok(begun) => match ground_joined(alloc, domain, problem, begun, limits, scale) {
+            Ok(joined) if joined.is_whole => Some(joined.task),
+            _ => None,
+        },
+        Err(_) => None,
     }
 }
 
