@@ -1,29 +1,23 @@
 -- The ticks that a duration constraint leaves are the lawful durations.
-use Rattle.std.proofs.Common.{◌≡◌, ℕ, ◌+◌, ◌-◌, ◌≤◌, Bool, true, false, cond, ◌||◌, List, [], ◌∷◌, Option, Some, None, ℤ, pos, ◌*ℤ◌, ◌≤ℤ◌, ◌<ℤ◌, int_lt, int_le, refl, arith}
-use Rattle.std.specs.Ordering.{int_eq}
-use Rattle.std.specs.List.{AllByRecursion}
+use Rattle.std.proofs.Common.{◌≡◌, ℕ, ◌+◌, ◌-◌, ◌≤◌, Bool, true, false, cond, ◌||◌, nat_le, List, [], ◌∷◌, ℤ, pos, ◌≤ℤ◌, int_lt, int_le, refl, sym, ◌∙◌, arith}
+use Rattle.std.specs.List.{list_all, AllByRecursion}
 use Rattle.std.specs.Bool.{MatchBool}
-use Rattle.std.proofs.lemmas.Int.{ints, clamps}
+use Rattle.std.proofs.lemmas.Bool.{and_parts, and_from, leb-true, le-leb}
+use Rattle.std.proofs.lemmas.Int.{ints}
 use Rattle.tp_bounds.specs.declared.Point.TheVariants.{Event}
 use Rattle.tp_bounds.specs.Schedule.{Meets}
-use Rattle.tp_task.specs.declared.events.Comparison.{Comparison}
-use Rattle.tp_task.specs.declared.events.Comparison.TheVariants.{Less, AtMost, Equal, AtLeast, Greater}
+use Rattle.tp_bounds.specs.OwnBounds.{MeetsEach}
 use Rattle.tp_task.specs.declared.events.GroundEvent.{GroundEvent}
 use Rattle.tp_task.specs.declared.events.Limit.{Limit}
-use Rattle.tp_task.specs.State.{State, both, value, compares, compares_values}
+use Rattle.tp_task.specs.State.{State}
 use Rattle.tp_task.specs.Valid.{IsLawful}
 use Rattle.tp_task.specs.Bounds.{uses_duration, KeepsDuration}
-use Rattle.tp_bounds.specs.OwnBounds.{MeetsEach}
-use Rattle.tp_deorder.specs.declared.spans.Ticks.{Ticks}
-use Rattle.tp_deorder.specs.Spans.{IsAmong, narrowed, narrowed_by, narrowed_all, lawful_ticks, kept_ticks}
+use Rattle.tp_validate.specs.declared.durations.Ticks.{Ticks}
+use Rattle.tp_validate.specs.Constraints.{limit_holds, is_among, lawful_ticks}
+use Rattle.tp_validate.proofs.Lawful.{lawful_is, lawful_least}
+use Rattle.tp_deorder.specs.Spans.{kept_ticks}
 use Rattle.tp_deorder.specs.Inequalities.{length_bounds}
 use Rattle.tp_deorder.proofs.Each.{each_if, met_if}
-
-lt_is : (a b : ℤ) → int_lt a b ≡ true → a <ℤ b
-lt_is a b h = grind (arith, ints)
-
-is_lt : (a b : ℤ) → a <ℤ b → int_lt a b ≡ true
-is_lt a b h = grind (arith, ints)
 
 not_lt : (a b : ℤ) → int_lt a b ≡ false → b ≤ℤ a
 not_lt a b h = grind (arith, ints)
@@ -34,84 +28,39 @@ le_is a b h = grind (arith, ints)
 is_le : (a b : ℤ) → a ≤ℤ b → int_le a b ≡ true
 is_le a b h = grind (arith, ints)
 
-eq_is : (a b : ℤ) → int_eq a b ≡ true → a ≡ b
-eq_is a b h = grind (arith, ints)
+-- a number of ticks is among them
+pub record IsAmong (s : Ticks) (ticks : ℕ) : Type 0 where
+  pub low : s.least ≤ℤ pos ticks
+  pub high : pos ticks ≤ℤ s.most
 
-is_eq : (a b : ℤ) → a ≡ b → int_eq a b ≡ true
-is_eq a b h = grind (arith, ints)
+among : (s : Ticks) (n : ℕ) → is_among s n ≡ true → IsAmong s n
+among s n h = let p = and_parts (int_le s.least (pos n)) (int_le (pos n) s.most) h in record { low = le_is _ _ p.0; high = le_is _ _ p.1 }
 
--- one comparison
-pub narrowed_keeps : (s : Ticks) (how : Comparison) (x : ℤ) (n : ℕ) → IsAmong s n → compares how (pos n) x ≡ true → IsAmong (narrowed s how x) n
-narrowed_keeps s Less x n i h = let k = lt_is (pos n) x h in record { low = i.low; high = omega (arith, ints, clamps, i.high) }
-narrowed_keeps s AtMost x n i h = let k = le_is (pos n) x h in record { low = i.low; high = omega (arith, ints, clamps, i.high) }
-narrowed_keeps s Equal x n i h = let k = eq_is (pos n) x h in record { low = omega (arith, ints, clamps, i.low); high = omega (arith, ints, clamps, i.high) }
-narrowed_keeps s AtLeast x n i h = let k = le_is x (pos n) h in record { low = omega (arith, ints, clamps, i.low); high = i.high }
-narrowed_keeps s Greater x n i h = let k = lt_is x (pos n) h in record { low = omega (arith, ints, clamps, i.low); high = i.high }
-
-pub narrowed_gives : (s : Ticks) (how : Comparison) (x : ℤ) (n : ℕ) → IsAmong (narrowed s how x) n → IsAmong s n × (compares how (pos n) x ≡ true)
-narrowed_gives s Less x n i = (record { low = i.low; high = omega (arith, ints, clamps, i.high) }, is_lt (pos n) x (omega (arith, ints, clamps, i.high)))
-narrowed_gives s AtMost x n i = (record { low = i.low; high = omega (arith, ints, clamps, i.high) }, is_le (pos n) x (omega (arith, ints, clamps, i.high)))
-narrowed_gives s Equal x n i = (record { low = omega (arith, ints, clamps, i.low); high = omega (arith, ints, clamps, i.high) }, is_eq (pos n) x (omega (arith, ints, clamps, i.low, i.high)))
-narrowed_gives s AtLeast x n i = (record { low = omega (arith, ints, clamps, i.low); high = i.high }, is_le x (pos n) (omega (arith, ints, clamps, i.low)))
-narrowed_gives s Greater x n i = (record { low = omega (arith, ints, clamps, i.low); high = i.high }, is_lt x (pos n) (omega (arith, ints, clamps, i.low)))
-
-least_grows : (s : Ticks) (how : Comparison) (x : ℤ) → s.least ≤ℤ (narrowed s how x).least
-least_grows s Less x = omega (arith, ints)
-least_grows s AtMost x = omega (arith, ints)
-least_grows s Equal x = omega (arith, ints, clamps)
-least_grows s AtLeast x = omega (arith, ints, clamps)
-least_grows s Greater x = omega (arith, ints, clamps)
+is_among_of : (s : Ticks) (n : ℕ) → IsAmong s n → is_among s n ≡ true
+is_among_of s n i = and_from (int_le s.least (pos n)) (int_le (pos n) s.most) (is_le _ _ i.low) (is_le _ _ i.high)
 
 module _ (horizon : ℕ) where
-  by_keeps : (s : Ticks) (how : Comparison) (v : Option ℤ) (n : ℕ) → IsAmong s n → compares_values how (Some (pos n)) v ≡ true → IsAmong (narrowed_by horizon s how v) n
-  by_keeps s how (Some x) n i h = narrowed_keeps s how x n i h
-  by_keeps s how None n i h = absurd (let f : ⊥ = cc in f)
-
-  by_gives : (s : Ticks) (how : Comparison) (v : Option ℤ) (n : ℕ) → n ≤ horizon → IsAmong (narrowed_by horizon s how v) n → IsAmong s n × (compares_values how (Some (pos n)) v ≡ true)
-  by_gives s how (Some x) n l i = narrowed_gives s how x n i
-  by_gives s how None n l i = absurd (omega (arith, ints, clamps, i.low))
-
-  by_grows : (s : Ticks) (how : Comparison) (v : Option ℤ) → s.least ≤ℤ (narrowed_by horizon s how v).least
-  by_grows s how (Some x) = least_grows s how x
-  by_grows s how None = omega (arith, ints, clamps)
-
   module _ (scale : ℕ) (s : State) where
-    abbrev of_limit : Limit → Option ℤ
-    of_limit l = both ◌*ℤ◌ (Some (pos scale)) (value s None l.value)
+    all_hold : (n : ℕ) (ls : List Limit) → AllByRecursion (λ (l : Limit). limit_holds scale s n l ≡ true) ls → list_all (limit_holds scale s n) ls ≡ true
+    all_hold n [] h = refl
+    all_hold n (l ∷ ls) h = and_from _ _ h.0 (all_hold n ls h.1)
 
-    abbrev Holds : ℕ → List Limit → Type 0
-    Holds n ls = AllByRecursion (λ (l : Limit). compares_values l.how (Some (pos n)) (of_limit l) ≡ true) ls
-
-    all_keeps : (now : Ticks) (ls : List Limit) (n : ℕ) → IsAmong now n → Holds n ls → IsAmong (narrowed_all horizon scale s now ls) n
-    all_keeps now [] n i h = i
-    all_keeps now (l ∷ ls) n i h = all_keeps (narrowed_by horizon now l.how (of_limit l)) ls n (by_keeps now l.how (of_limit l) n i h.0) h.1
-
-    all_gives : (now : Ticks) (ls : List Limit) (n : ℕ) → n ≤ horizon → IsAmong (narrowed_all horizon scale s now ls) n → IsAmong now n × Holds n ls
-    all_gives now [] n l i = (i, tt)
-    all_gives now (x ∷ xs) n l i =
-        let r = all_gives (narrowed_by horizon now x.how (of_limit x)) xs n l i in
-        let q = by_gives now x.how (of_limit x) n l r.0 in
-        (q.0, (q.1, r.1))
-
-    all_grows : (now : Ticks) (ls : List Limit) → now.least ≤ℤ (narrowed_all horizon scale s now ls).least
-    all_grows now [] = omega (arith, ints)
-    all_grows now (l ∷ ls) =
-        let a = by_grows now l.how (of_limit l) in
-        let b = all_grows (narrowed_by horizon now l.how (of_limit l)) ls in
-        omega (arith, ints, a, b)
+    hold_all : (n : ℕ) (ls : List Limit) → list_all (limit_holds scale s n) ls ≡ true → AllByRecursion (λ (l : Limit). limit_holds scale s n l ≡ true) ls
+    hold_all n [] h = tt
+    hold_all n (l ∷ ls) h = let p = and_parts (limit_holds scale s n l) _ h in (p.0, hold_all n ls p.1)
 
     pub lawful_among : (constraint : List Limit) (n : ℕ) → n ≤ horizon → IsLawful scale s constraint n → IsAmong (lawful_ticks horizon scale s constraint) n
-    lawful_among constraint n l h = all_keeps _ constraint n (record { low = omega (arith, ints, h.tick); high = omega (arith, ints) }) h.constraint_holds
+    lawful_among constraint n l h =
+        among _ n (lawful_is horizon scale s constraint n l ∙ and_from (nat_le 1 n) _ (le-leb 1 n h.tick) (all_hold n constraint h.constraint_holds))
 
-    pub among_lawful : (constraint : List Limit) (n : ℕ) → n ≤ horizon → IsAmong (lawful_ticks horizon scale s constraint) n → IsLawful scale s constraint n
-    among_lawful constraint n l i = let r = all_gives _ constraint n l i in record { tick = omega (arith, ints, r.0.low); constraint_holds = r.1 }
-
-    pub lawful_least : (constraint : List Limit) → pos 1 ≤ℤ (lawful_ticks horizon scale s constraint).least
-    lawful_least constraint = all_grows _ constraint
+    among_lawful : (constraint : List Limit) (n : ℕ) → n ≤ horizon → IsAmong (lawful_ticks horizon scale s constraint) n → IsLawful scale s constraint n
+    among_lawful constraint n l i =
+        let p = and_parts (nat_le 1 n) _ (sym (lawful_is horizon scale s constraint n l) ∙ is_among_of _ n i) in
+        record { tick = leb-true 1 n p.0; constraint_holds = hold_all n constraint p.1 }
 
     pub kept_least : (constraint : List Limit) (duration : ℕ) (b : Bool) → pos 0 ≤ℤ (cond b (record { least = pos duration; most = pos duration }) (lawful_ticks horizon scale s constraint)).least
     kept_least constraint duration true = omega (arith, ints)
-    kept_least constraint duration false = omega (arith, ints, lawful_least constraint)
+    kept_least constraint duration false = omega (arith, ints, lawful_least horizon scale s constraint)
 
     matched : (constraint : List Limit) (duration n : ℕ) (b : Bool) → n ≤ horizon → MatchBool b (n ≡ duration) (IsLawful scale s constraint n) → IsAmong (cond b (record { least = pos duration; most = pos duration }) (lawful_ticks horizon scale s constraint)) n
     matched constraint duration n true l h = record { low = omega (arith, ints); high = omega (arith, ints) }

@@ -5,6 +5,7 @@ pub mod Kept
 pub mod OnRows
 pub mod OnSteps
 pub mod OnWalks
+pub mod OnInvariants
 pub mod OnNets
 pub mod OnRunPlans
 pub mod OnPlanNets

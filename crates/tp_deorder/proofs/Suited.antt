@@ -16,13 +16,14 @@ use Rattle.tp_task.specs.Bounds.{In, uses_duration}
 use Rattle.tp_task.proofs.Numbered.{in_parts, in_left, in_right}
 use Rattle.tp_validate.proofs.Ordered.{at_most}
 use Rattle.tp_validate.proofs.Runs.{all_in}
-use Rattle.tp_deorder.specs.declared.spans.Ticks.{Ticks}
-use Rattle.tp_deorder.specs.Spans.{IsAmong, kept_ticks, lawful_ticks}
+use Rattle.tp_validate.specs.declared.durations.Ticks.{Ticks}
+use Rattle.tp_validate.specs.Constraints.{lawful_ticks}
+use Rattle.tp_deorder.specs.Spans.{kept_ticks}
 use Rattle.tp_deorder.specs.Inequalities.{earlier, no_later, comes_before, only_if, order_of, orders, touches, touching, is_inside, inside, side_of, turn_of, invariant_bounds, length_bounds, at_most_after, body_bounds, steps_bounds, plan_bounds, event_count_of}
 use Rattle.tp_bounds.specs.Nets.{SuitsNet}
 use Rattle.tp_deorder.proofs.Each.{filter_in}
 use Rattle.tp_deorder.proofs.Every.{all_append, all_if, all_flat}
-use Rattle.tp_deorder.proofs.Durations.{lawful_among, kept_least}
+use Rattle.tp_deorder.proofs.Durations.{IsAmong, lawful_among, kept_least}
 
 below_one : (k : ℕ) (p : Planned) (b : Body) (e : Placed) → In e (events_of k p b) → e.number < k + count_of b
 below_one k p (Instant x) e (inl w) = let n : e.number ≡ k = ap (λ (y : Placed). y.number) w in omega arith

@@ -1,19 +1,20 @@
 -- What the network of a plan is, and when it is refused.
-use Rattle.std.specs.Prelude.{◌≡◌, ℕ, ◌<◌, ◌≤◌, ◌⊎◌, ◌↔◌, List, length, map, slice_index_or, string_bytes}
+use Rattle.std.specs.Prelude.{◌≡◌, ℕ, None, ◌<◌, ◌≤◌, ◌⊎◌, ◌↔◌, List, length, map, slice_index_or, string_bytes}
 use Rattle.tp_bounds.specs.declared.Bound.{Bound}
 use Rattle.tp_bounds.specs.Schedule.{IsSchedule}
 use Rattle.tp_task.specs.declared.task.Task.{Task}
 use Rattle.tp_task.specs.Bounds.{MeetsBounds}
 use Rattle.tp_happen.specs.tp_plan_text.declared.plans.Step.{Step}
-use Rattle.tp_validate.specs.OfTask.{scale_of, plan_of, state_at, IsValidPlan}
+use Rattle.tp_validate.specs.OfTask.{AreSteps, scale_of, begin, plan_of, state_at, IsValidPlan}
 use Rattle.tp_deorder.specs.RunPlans.{run_steps}
 use Rattle.std.specs.List.{All}
 use Rattle.tp_bounds.specs.declared.plan_nets.PlanNet.{PlanNet}
 use Rattle.tp_bounds.specs.Nets.{SuitsNet}
 use Rattle.tp_bounds.specs.OwnBounds.{setting_of, IsWithin}
 use Rattle.tp_bounds.specs.RunLimits.{RunLimits}
-use Rattle.tp_task.specs.Valid.{Planned, events}
-use Rattle.tp_task.specs.Verdict.{last_moment}
+use Rattle.tp_task.specs.Valid.{Planned, events, at}
+use Rattle.tp_task.specs.Verdict.{fault_at, last_moment, states}
+use Rattle.tp_happen.specs.Bounded.{StaysSmall}
 use Rattle.tp_deorder.specs.declared.DeorderFault.{DeorderFault}
 use Rattle.tp_deorder.specs.declared.DeorderFault.TheVariants.{Memory, TooMany}
 use Rattle.tp_deorder.specs.EventTexts.{event_lines}
@@ -24,6 +25,14 @@ use Rattle.tp_deorder.specs.Kept.{net_bounds}
 abbrev pub OnTooMany : DeorderFault → Type 0 → Type 0
 OnTooMany Memory P = Unit {0}
 OnTooMany TooMany P = P
+
+-- What is known of the steps of a sound plan of a task.
+pub record AreSound (t : Task) (steps : List Planned) : Type 0 where
+  pub known : AreSteps t steps
+  pub clear : (m : ℕ) → fault_at (scale_of t) (begin t) steps m ≡ None
+  pub small :
+      (m : ℕ) → StaysSmall (scale_of t)
+      (states (scale_of t) (begin t) (events steps) m) (at m (events steps))
 
 -- the plan's own ticks: the moment of each event, by its number
 abbrev pub own_ticks : List Planned → ℕ → ℕ

@@ -1,7 +1,6 @@
 pub mod Spans
 pub mod Inequalities
 pub mod Kept
-pub mod Touching
 pub mod Answers
 pub mod RunPlans
 pub mod EventTexts

@@ -1,30 +1,30 @@
 //! The network of a validated plan.
 
-ghost use Rattle.std.specs.Prelude.{◌≡◌, ℕ, ◌+◌, ◌++◌, ◌≤◌, ◌<◌, true, false, ◌||◌, None, nat_le, nat_lt, length, pos, ◌≤ℤ◌, IfOk, IfErr};
-ghost use Rattle.std.specs.List.{list_all, All};
-ghost use Rattle.tp_task.specs.Fits.{body_fits};
-ghost use Rattle.tp_task.specs.Valid.{events, at};
-ghost use Rattle.tp_task.specs.Verdict.{states, fault_at, last_moment};
-ghost use Rattle.tp_happen.specs.Bounded.{StaysSmall};
+ghost use Rattle.std.specs.Prelude.{◌≡◌, ◌+◌, ◌++◌, ◌≤◌, ◌<◌, ◌||◌, nat_lt, length, pos, ◌≤ℤ◌, IfOk, IfErr};
+ghost use Rattle.std.specs.List.{All};
+ghost use Rattle.tp_task.specs.Valid.{events};
+ghost use Rattle.tp_task.specs.Verdict.{states, last_moment};
 ghost use Rattle.tp_happen.specs.tp_plan_text.Steps.{IsPlan};
 ghost use Rattle.tp_validate.specs.Verdict.{IsSound};
 ghost use Rattle.tp_validate.specs.OfTask.{scale_of, begin, plan_of};
 ghost use Rattle.tp_deorder.specs.Spans.{plan_ticks};
 ghost use Rattle.tp_deorder.specs.Inequalities.{comes_before, steps_by, bound_count, event_count_of};
 ghost use Rattle.tp_deorder.specs.Kept.{kept_orders, net_bounds, AreNumbered};
-ghost use Rattle.tp_deorder.specs.Answers.{OnTooMany, PassesLimits, IsNetOf, IsPlanNetOf, bounds_in};
+ghost use Rattle.tp_deorder.specs.Answers.{AreSound, OnTooMany, PassesLimits, IsNetOf, IsPlanNetOf, bounds_in};
 
 use crate::DeorderFault;
 use crate::event_texts::event_texts;
 use crate::orders::note_orders;
-use crate::spans::Ticks;
 use crate::steps::note_steps;
+use crate::traces::traced;
 use crate::walk::walk;
 use std::alloc::Global;
 use tp_bounds::{Bound, Limits, PlanNet};
 use tp_happen::Step;
 use tp_task::Task;
-use tp_validate::{PlacedEvent, PlannedStep, ValidPlan, agenda_of, placed_events, planned_steps};
+use tp_validate::{
+    PlacedEvent, PlannedStep, Ticks, ValidPlan, agenda_of, placed_events, planned_steps,
+};
 
 /// The bounds of steps that may take these numbers of ticks. TooMany where they are more than
 /// `most`.
@@ -50,7 +50,8 @@ fn note_all(
 {
     let mut bounds = Vec::new(alloc);
     note_orders(alloc, &mut bounds, events, most)?;
-    note_steps(alloc, &mut bounds, events, steps, kept, horizon, most)?;
+    let traces = traced(alloc, events)?;
+    note_steps(alloc, &mut bounds, &traces, steps, kept, horizon, most)?;
     if bounds.len() > most as usize {
         return Err(DeorderFault::TooMany);
     }
@@ -64,13 +65,7 @@ fn ticks_of(
     horizon: u32,
     steps: &[PlannedStep<'_>],
 ) -> Result<Vec<Ticks>, DeorderFault>
-    requires few { length steps.now ≤ 512 }
-    requires ends { list_all (λ p. nat_le (p.moment + p.duration) 1000000000) steps.now ≡ true }
-    requires fits { list_all (λ p. body_fits (length task.now.initial_atoms.items)
-        (length task.now.initial_numbers.items) p.body) steps.now ≡ true }
-    requires clear { (m : ℕ) → fault_at (scale_of task.now) (begin task.now) steps.now m ≡ None }
-    requires small { (m : ℕ) → StaysSmall (scale_of task.now) (states
-        (scale_of task.now) (begin task.now) (events steps.now) m) (at m (events steps.now)) }
+    requires { AreSound task.now steps.now }
     ensures ok { IfOk result (λ v. v.items ≡ plan_ticks horizon (scale_of task.now)
         (states (scale_of task.now) (begin task.now) (events steps.now)) steps.now) }
     ensures err { IfErr result (λ e. OnTooMany e ⊥) }
@@ -87,13 +82,7 @@ fn bounds_of(
     horizon: u32,
     most: u32,
 ) -> Result<Vec<Bound>, DeorderFault>
-    requires few { length steps.now ≤ 512 }
-    requires ends { list_all (λ p. nat_le (p.moment + p.duration) 1000000000) steps.now ≡ true }
-    requires fits { list_all (λ p. body_fits (length task.now.initial_atoms.items)
-        (length task.now.initial_numbers.items) p.body) steps.now ≡ true }
-    requires clear { (m : ℕ) → fault_at (scale_of task.now) (begin task.now) steps.now m ≡ None }
-    requires small { (m : ℕ) → StaysSmall (scale_of task.now) (states
-        (scale_of task.now) (begin task.now) (events steps.now) m) (at m (events steps.now)) }
+    requires { AreSound task.now steps.now }
     ensures ok { IfOk result (λ v. v.items ≡ net_bounds horizon (scale_of task.now)
         (states (scale_of task.now) (begin task.now) (events steps.now)) steps.now) }
     ensures few { IfOk result (λ v. length v.items ≤ most) }
@@ -118,16 +107,12 @@ fn last_tick(events: &[PlacedEvent<'_>]) -> u32
     last
 }
 
-/// Whether a plan has too many events for the limits, or ends past their horizon.
-fn passes(alloc: Global, steps: &[PlannedStep<'_>], limits: &Limits) -> Result<bool, DeorderFault>
-    requires few { length steps.now ≤ 512 }
-    requires ends { list_all (λ p. nat_le (p.moment + p.duration) 1000000000) steps.now ≡ true }
-    ensures ok { IfOk result (λ r. r ≡ (nat_lt limits.now.events (length (events steps.now))
-        || nat_lt limits.now.horizon (last_moment (events steps.now)))) }
-    ensures err { IfErr result (λ e. OnTooMany e ⊥) }
+/// Whether the events of a plan are too many for the limits, or end past their horizon.
+fn passes(events: &[PlacedEvent<'_>], limits: &Limits) -> bool
+    ensures { result ≡ (nat_lt limits.now.events (length events.now)
+        || nat_lt limits.now.horizon (last_moment events.now)) }
 {
-    let events = placed_events(alloc, steps)?;
-    Ok((limits.events() as usize) < events.len() || limits.horizon() < last_tick(&events))
+    (limits.events() as usize) < events.len() || limits.horizon() < last_tick(events)
 }
 
 /// The bounds of a sound plan of a task, within limits.
@@ -149,7 +134,8 @@ fn bounds_within(
         (λ e. OnTooMany e (PassesLimits limits.now task.now steps.now)) }
 {
     let planned = planned_steps(alloc, task, steps)?;
-    if passes(alloc, &planned, limits)? {
+    let events = placed_events(alloc, &planned)?;
+    if passes(&events, limits) {
         return Err(DeorderFault::TooMany);
     }
     bounds_of(alloc, task, &planned, limits.horizon(), limits.bounds())

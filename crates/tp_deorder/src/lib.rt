@@ -1,7 +1,6 @@
 //! Deordering: the network of all schedules of a validated plan.
 //!
 //! - `walk`: how many ticks each step may take, by the states that the plan's run goes through
-//! - `spans`: how many ticks a duration constraint allows in a state
 //! - `traces`: the events with what they read and write
 //! - `marks`: which events come before which that they interfere with
 //! - `orders`: bounds that keep the order of interfering events
@@ -31,7 +30,6 @@ mod event_texts;
 mod invariants;
 mod marks;
 mod orders;
-mod spans;
 mod steps;
 mod traces;
 mod walk;

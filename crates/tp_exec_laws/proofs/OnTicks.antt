@@ -6,8 +6,9 @@ use Rattle.tp_task.specs.declared.events.Limit.{Limit}
 use Rattle.tp_task.specs.State.{both}
 use Rattle.tp_task.specs.Tables.{Tables}
 use Rattle.tp_task.specs.Valid.{Planned}
-use Rattle.tp_deorder.specs.declared.spans.Ticks.{Ticks}
-use Rattle.tp_deorder.specs.Spans.{narrowed_by, narrowed_all, step_ticks}
+use Rattle.tp_validate.specs.declared.durations.Ticks.{Ticks}
+use Rattle.tp_validate.specs.Constraints.{narrowed_by, narrowed_all}
+use Rattle.tp_deorder.specs.Spans.{step_ticks}
 use Rattle.tp_ground.specs.ReadBack.{named_limit, named_body}
 use Rattle.tp_ground.specs.Written.{GroundLimit, GroundBody, instant, durative}
 use Rattle.tp_ground_laws.proofs.ByWords.{WordState, value_in}

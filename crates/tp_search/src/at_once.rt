@@ -213,30 +213,6 @@ fn add_children(
     Ok(())
 }
 
-// Expands a node; which candidates interfere with the last one chosen is asked before, if it was
-// not.
-fn expand(
-    arena: &mut Arena,
-    rows: &mut Rows,
-    task: &Task,
-    candidates: &[u32],
-    node: u32,
-    chosen: &[u32],
-    first: u32,
-) -> Result<(), AllocError>
-    requires known { node < length arena.old }
-    requires chosen { chosen.now ≡ slice_index_or arena.old node [] }
-    requires is_node { IsNode (length task.now.actions.items) chosen.now }
-    requires actions { AllByRecursion (λ a. a < length task.now.actions.items) candidates.now }
-    requires rows { AreRows task.now candidates.now rows.old.rows.items }
-    ensures children { OnOk result
-        (arena.new ≡ arena.old ++ children_within task.now first candidates.now chosen.now) }
-    ensures rows { OnOk result (AreRows task.now candidates.now rows.new.rows.items) }
-{
-    rows.ask_last(task, candidates, chosen)?;
-    add_children(arena, rows, task, candidates, node, chosen, first)
-}
-
 // Takes nodes in the order in which they were made, until one is a plan or the budget is spent.
 fn run<'t>(
     alloc: Global,
@@ -261,7 +237,8 @@ fn run<'t>(
             return Ok(Found::Spent(expanded));
         }
         let first = first_after(&chosen);
-        expand(&mut arena, rows, task, candidates, expanded, &chosen, first)?;
+        rows.ask_last(task, candidates, &chosen)?;
+        add_children(&mut arena, rows, task, candidates, expanded, &chosen, first)?;
         expanded += 1;
     }
     Ok(Found::Exhausted)

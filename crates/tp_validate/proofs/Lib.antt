@@ -8,4 +8,3 @@ pub mod Judging
 pub mod Lawful
 pub mod AtPlace
 pub mod Ordered
-pub mod OnMentions

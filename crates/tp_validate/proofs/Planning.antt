@@ -4,14 +4,15 @@ use Rattle.std.specs.List.{list_all, slice_get}
 use Rattle.std.specs.Option.{option_to_list}
 use Rattle.std.proofs.lemmas.Bool.{and_parts, and_from, leb-true}
 use Rattle.tp_task.specs.declared.events.Body.{Body}
+use Rattle.tp_task.specs.declared.task.Task.{Task}
 use Rattle.tp_task.specs.declared.events.Body.TheVariants.{Instant, Durative}
 use Rattle.tp_task.specs.Fits.{body_fits, event_fits}
 use Rattle.tp_task.specs.Happens.{EventOfStep}
 use Rattle.tp_task.specs.Valid.{Planned, Placed, events_of, events_from, count_of, at}
 use Rattle.tp_task.specs.Verdict.{last_moment}
 use Rattle.tp_happen.specs.tp_plan_text.declared.plans.Step.{Step}
-use Rattle.tp_happen.specs.tp_plan_text.Steps.{ends_in_time}
-use Rattle.tp_validate.specs.OfTask.{step_of, planned}
+use Rattle.tp_happen.specs.tp_plan_text.Steps.{ends_in_time, IsPlan}
+use Rattle.tp_validate.specs.OfTask.{AreSteps, plan_of, step_of, planned}
 
 few_more : (s : Step) (o : Option Body) (ps : List Planned) (n : ℕ) → length ps ≤ n → length (option_to_list (option_map (step_of s) o) ++ ps) ≤ suc n
 few_more s None ps n h = omega (arith, h)
@@ -77,3 +78,11 @@ last_ends k [] h = omega arith
 last_ends k (p ∷ ps) h =
     let q = and_parts (ends p) (list_all ends ps) h in
     body_last k 1000000000 p p.body (events_from (k + count_of p.body) ps) (leb-true (p.moment + p.duration) 1000000000 q.0) (last_ends (k + count_of p.body) ps q.1)
+
+pub steps_of : (t : Task) (steps : List Step) → IsPlan steps → AreSteps t (plan_of t steps)
+steps_of t steps plan =
+    record {
+      few = omega (arith, planned_few t.actions.items steps, plan.few);
+      ends = planned_ends t.actions.items steps plan.ends;
+      fits = planned_fits (length t.initial_atoms.items) (length t.initial_numbers.items) t.actions.items steps t.fits;
+    }

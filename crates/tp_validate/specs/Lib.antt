@@ -3,7 +3,6 @@ pub mod Places
 pub mod Agenda
 pub mod Tick
 pub mod Constraints
-pub mod Touched
 pub mod Found
 pub mod Verdict
 pub mod Validated

@@ -1,11 +1,12 @@
 -- The plans of a task: what their steps do, their run, and when they are valid.
-use Rattle.std.specs.Prelude.{◌≡◌, ℕ, suc, Bool, true, nat_lt, ◌&&◌, ◌||◌, ◌==◌, List, [], ◌∷◌, ◌++◌, length, slice_get, option_map, Option}
+use Rattle.std.specs.Prelude.{◌≡◌, ℕ, suc, ◌+◌, ◌≤◌, nat_le, Bool, true, nat_lt, ◌&&◌, ◌||◌, ◌==◌, List, [], ◌∷◌, ◌++◌, length, slice_get, option_map, Option}
 use Rattle.std.specs.Option.{option_to_list}
 use Rattle.std.specs.List.{list_all}
 use Rattle.tp_text.specs.Scales.{scale_ticks}
 use Rattle.tp_task.specs.declared.events.Body.{Body}
 use Rattle.tp_task.specs.declared.task.Task.{Task}
 use Rattle.tp_task.specs.State.{State}
+use Rattle.tp_task.specs.Fits.{body_fits}
 use Rattle.tp_task.specs.Valid.{Planned, Placed, events, IsValid}
 use Rattle.tp_task.specs.Verdict.{Fault, states, fault_at, last_moment}
 use Rattle.tp_happen.specs.tp_plan_text.declared.plans.Step.{Step}
@@ -33,6 +34,14 @@ planned bodies (s ∷ ss) =
 
 abbrev pub plan_of : Task → List Step → List Planned
 plan_of t steps = planned t.actions.items steps
+
+-- What is known of the steps of a plan: they are few, none ends late, and their events fit the states of the task.
+pub record AreSteps (t : Task) (ps : List Planned) : Type 0 where
+  pub few : length ps ≤ 512
+  pub ends : list_all (λ p. nat_le (p.moment + p.duration) 1000000000) ps ≡ true
+  pub fits :
+      list_all (λ p. body_fits (length t.initial_atoms.items) (length t.initial_numbers.items) p.body)
+      ps ≡ true
 
 abbrev pub events_of : Task → List Step → List Placed
 events_of t steps = events (plan_of t steps)

@@ -1,17 +1,14 @@
 //! The steps of a plan with what their actions do, and their events in order.
 
-ghost use Rattle.std.specs.Prelude.{◌≡◌, ℕ, ◌+◌, ◌*◌, ◌<◌, ◌≤◌, ◌||◌, ◌++◌, true, nat_le, length, map, option_map, slice_get, slice_index_or, IfOk, OnOk};
-ghost use Rattle.std.specs.List.{list_all, list_any};
+ghost use Rattle.std.specs.Prelude.{◌≡◌, ℕ, ◌+◌, ◌*◌, ◌<◌, ◌≤◌, ◌++◌, true, nat_le, length, map, option_map, slice_get, slice_index_or, IfOk, OnOk};
+ghost use Rattle.std.specs.List.{list_all};
 ghost use Rattle.tp_task.specs.Valid.{events, events_of, count_of};
 ghost use Rattle.tp_validate.specs.OfTask.{plan_of, step_of};
 ghost use Rattle.tp_validate.specs.Places.{numbers};
-ghost use Rattle.tp_happen.specs.Sets.{has_number};
-ghost use Rattle.tp_validate.specs.Touched.{mentions_any};
 
-use crate::mentions::{invariant_atoms, invariant_fluents};
 use std::alloc::{AllocError, Global};
 use std::marker::Model;
-use tp_happen::{Event, EventRef, NumberSet, Step};
+use tp_happen::{Event, EventRef, Step};
 use tp_task::{Body, GroundEvent, Task};
 
 /// A step of a plan with what its action does.
@@ -20,9 +17,6 @@ pub struct PlannedStep<'t> {
     pub tick: u32,
     pub duration: u32,
     pub body: &'t Body,
-    // What its invariant mentions.
-    atoms: NumberSet,
-    fluents: NumberSet,
 }
 
 impl<'t> Model for PlannedStep<'t> {
@@ -35,28 +29,6 @@ impl<'t> Model for PlannedStep<'t> {
     ghost coded = { Prim.hlevel (codes, ground_body.the_row.coded) };
 
     ghost view = { λ s. record { moment = s.tick; duration = s.duration; body = s.body.now } };
-
-    ghost use Rattle.tp_validate.specs.Touched.{MentionsFit};
-
-    ghost invariant = { λ s. MentionsFit s.body.now s.atoms s.fluents };
-}
-
-// Whether one set has some of these atoms, or the other some of these fluents.
-fn have_any(atoms: &NumberSet, some: &[u32], fluents: &NumberSet, others: &[u32]) -> bool
-    ensures { result ≡ (list_any (has_number atoms.now) some.now
-        || list_any (has_number fluents.now) others.now) }
-{
-    atoms.has_any(some) || fluents.has_any(others)
-}
-
-impl<'t> PlannedStep<'t> {
-    /// Whether its invariant mentions one of these atoms or of these fluents. Takes a step for each
-    /// of them.
-    pub fn mentions_any(&self, atoms: &[u32], fluents: &[u32]) -> bool
-        ensures { result ≡ mentions_any self.now.body atoms.now fluents.now }
-    {
-        have_any(&self.atoms, atoms, &self.fluents, fluents)
-    }
 }
 
 /// An event of a plan: its number, the numbers of its step's first and last event, and the moment
@@ -134,22 +106,14 @@ impl<'t> PlacedEvent<'t> {
 }
 
 // A step with what its action does.
-fn planned_step<'t>(
-    alloc: Global,
-    step: Step,
-    body: &'t Body,
-) -> Result<PlannedStep<'t>, AllocError>
-    ensures { IfOk result (λ p. p ≡ step_of step body.now) }
+fn planned_step<'t>(step: Step, body: &'t Body) -> PlannedStep<'t>
+    ensures { result ≡ step_of step body.now }
 {
-    let atoms = invariant_atoms(alloc, body)?;
-    let fluents = invariant_fluents(alloc, body)?;
-    Ok(PlannedStep {
+    PlannedStep {
         tick: step.tick,
         duration: step.duration,
         body,
-        atoms,
-        fluents,
-    })
+    }
 }
 
 // What the action of a step does, if the task has that action.
@@ -171,7 +135,7 @@ pub fn planned_steps<'t>(
     let mut planned = Vec::new(alloc);
     for step in steps {
         if let Some(body) = body_of(task, *step) {
-            planned.push(planned_step(alloc, *step, body)?)?;
+            planned.push(planned_step(*step, body))?;
         }
     }
     Ok(planned)

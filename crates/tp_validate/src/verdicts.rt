@@ -1,13 +1,10 @@
 //! The verdict on a plan, tick after tick.
 
-ghost use Rattle.std.specs.Prelude.{◌≡◌, ◌+◌, ◌<◌, ◌≤◌, nat_le, true, ◌⊎◌, length, IfOk, IfErr, IfSome, MatchOption};
-ghost use Rattle.std.specs.List.{All, list_all};
-ghost use Rattle.tp_task.specs.Fits.{body_fits};
+ghost use Rattle.std.specs.Prelude.{◌≡◌, IfOk, IfErr, MatchOption};
 ghost use Rattle.tp_task.specs.Valid.{events};
-ghost use Rattle.tp_task.specs.Verdict.{last_moment};
 ghost use Rattle.tp_happen.specs.Fault.{OnRange};
 ghost use Rattle.tp_happen.specs.tp_plan_text.Steps.{IsPlan};
-ghost use Rattle.tp_validate.specs.OfTask.{IsOfTask, plan_of, IsValidPlan};
+ghost use Rattle.tp_validate.specs.OfTask.{AreSteps, IsOfTask, plan_of, IsValidPlan};
 ghost use Rattle.tp_validate.specs.Verdict.{IsSound, PassesIn};
 ghost use Rattle.tp_validate.specs.Agenda.{IsAgenda};
 ghost use Rattle.tp_validate.specs.Reached.{IsRan, PassesBy};
@@ -16,7 +13,7 @@ ghost use Rattle.tp_validate.specs.Answers.{IsFirst, IsVerdict, IsFault};
 use crate::agenda::{agenda_of, next_tick};
 use crate::placing::{PlacedEvent, PlannedStep, placed_events, planned_steps};
 use crate::ticks::{Fault, Judged, judge_tick};
-use std::alloc::{AllocError, Global};
+use std::alloc::Global;
 use std::marker::Model;
 use thiserror::Error;
 use tp_happen::{ApplyFault, Plan, State, Step, holds};
@@ -98,11 +95,8 @@ fn run(
     steps: &[PlannedStep<'_>],
     agenda: &[PlacedEvent<'_>],
 ) -> Result<Ran, ApplyFault>
-    requires few { length steps.now ≤ 512 }
     requires agenda { IsAgenda (events steps.now) 0 agenda.now }
-    requires fits { list_all (λ p. body_fits (length task.now.initial_atoms.items)
-        (length task.now.initial_numbers.items) p.body) steps.now ≡ true }
-    requires ends { last_moment (events steps.now) ≤ 1000000000 }
+    requires steps { AreSteps task.now steps.now }
     ensures ran { IfOk result (IsRan task.now steps.now) }
     ensures range { IfErr result (λ e. OnRange e (PassesBy task.now steps.now)) }
 {
@@ -121,35 +115,6 @@ fn run(
     Ok(Ran::Done(from, state))
 }
 
-// The events of a plan's steps in the order of their moments.
-fn agenda_in<'t>(
-    alloc: Global,
-    planned: &[PlannedStep<'t>],
-) -> Result<Vec<PlacedEvent<'t>>, AllocError>
-    requires few { length planned.now ≤ 512 }
-    requires ends { list_all (λ p. nat_le (p.moment + p.duration) 1000000000) planned.now ≡ true }
-    ensures { IfOk result (λ v. IsAgenda (events planned.now) 0 v.items) }
-{
-    let events = placed_events(alloc, planned)?;
-    agenda_of(events)
-}
-
-// Carries out the steps of a plan, up to the first fault or to the last event.
-fn carry_out_steps(
-    alloc: Global,
-    task: &Task,
-    steps: &[Step],
-    planned: &[PlannedStep<'_>],
-) -> Result<Ran, ApplyFault>
-    requires plan { IsPlan steps.now }
-    requires planned { planned.now ≡ plan_of task.now steps.now }
-    ensures ran { IfOk result (IsRan task.now (plan_of task.now steps.now)) }
-    ensures range { IfErr result (λ e. OnRange e (PassesBy task.now (plan_of task.now steps.now))) }
-{
-    let agenda = agenda_in(alloc, planned)?;
-    run(alloc, task, planned, &agenda)
-}
-
 // Carries out a plan, up to its first fault or to its last event.
 fn carry_out(alloc: Global, task: &Task, steps: &[Step]) -> Result<Ran, ApplyFault>
     requires { IsPlan steps.now }
@@ -157,7 +122,8 @@ fn carry_out(alloc: Global, task: &Task, steps: &[Step]) -> Result<Ran, ApplyFau
     ensures range { IfErr result (λ e. OnRange e (PassesBy task.now (plan_of task.now steps.now))) }
 {
     let planned = planned_steps(alloc, task, steps)?;
-    carry_out_steps(alloc, task, steps, &planned)
+    let agenda = agenda_of(placed_events(alloc, &planned)?)?;
+    run(alloc, task, &planned, &agenda)
 }
 
 // The tick of the first fault and why, None for a plan that has none.

@@ -27,10 +27,10 @@ loop-arena-preserved c =
     let p : (c.loop-arena.expanded < length c.loop-arena.arena) × (xs ≡ get_or c.loop-arena.arena c.loop-arena.expanded []) = rw c.in-Some.is at c.in_ok-chosen.ensures in
     let unfit : ¬ IsValidPlan t (steps_at xs) = subst (λ ys. ¬ IsValidPlan t (steps_at ys)) c.deref.ensures.value (rw c.in_default-2.is at c.in_ok-plan.ensures) in
     let least : (a : ℕ) → AllByRecursion (λ b. b < a) xs → first ≤ a = λ a h. c.first_after-first.ensures.least a (subst (AllByRecursion (λ b. b < a)) (sym c.deref-in-Some.ensures.value) h) in
-    let new : c.expand.new.arena ≡ c.loop-arena.arena ++ children_within t first c.args.candidates.now xs =
-    subst (λ ys. c.expand.new.arena ≡ c.loop-arena.arena ++ children_within t first c.args.candidates.now ys) c.deref-in-Some-2.ensures.value c.in_ok-expand.ensures.children in
+    let new : c.add_children.new.arena ≡ c.loop-arena.arena ++ children_within t first c.args.candidates.now xs =
+    subst (λ ys. c.add_children.new.arena ≡ c.loop-arena.arena ++ children_within t first c.args.candidates.now ys) c.deref-in-Some-3.ensures.value c.in_ok-add_children.ensures in
     record {
-      running = subst (λ n. IsRunning t c.expand.new.arena n) (sym (add-one c.loop-arena.expanded)) (next_running t c.loop-arena.arena c.loop-arena.expanded c.loop-arena.invariant.running xs p.0 p.1 unfit first least c.args.candidates.now c.requires.all c.expand.new.arena new);
+      running = subst (λ n. IsRunning t c.add_children.new.arena n) (sym (add-one c.loop-arena.expanded)) (next_running t c.loop-arena.arena c.loop-arena.expanded c.loop-arena.invariant.running xs p.0 p.1 unfit first least c.args.candidates.now c.requires.all c.add_children.new.arena new);
       few = omega arith;
-      rows = c.in_ok-expand.ensures.rows;
+      rows = c.in_ok-ask_last.ensures.rows;
     }

@@ -4,7 +4,7 @@ use Rattle.tp_happen.specs.tp_plan_text.declared.plans.Step.{Step}
 use Rattle.tp_validate.specs.OfTask.{planned}
 use Rattle.tp_validate.proofs.AtPlace.{with_one, with_none, found_body, no_body}
 use Rattle.tp_validate.proofs.placing.planned_steps.Goals as goal
-use Rattle.tp_validate.proofs.placing.planned_steps.Goals.{in-Some+in_ok-planned_step+in_ok-push, in_default}
+use Rattle.tp_validate.proofs.placing.planned_steps.Goals.{in-Some+in_ok-push, in_default}
 
 pub loop-step-preserved : goal.loop-step-preserved
 loop-step-preserved c =
@@ -14,8 +14,8 @@ loop-step-preserved c =
     let d : Step = record { tick = 0; action = record { 0 = 0 }; duration = 0 } in
     let s : Step = get_or steps i d in
     elim c.match-body_of.branch [
-      | in-Some+in_ok-planned_step+in_ok-push w ↦ with_one bodies steps i d c.loop-step-test.true c.loop-step.planned.items c.match-body_of.planned.items (planned bodies steps) w.in_ok-planned_step.field-0
-          (found_body _ _ _ s _ _ w.in_ok-planned_step.ensures w.in-Some.is c.body_of.ensures)
+      | in-Some+in_ok-push w ↦ with_one bodies steps i d c.loop-step-test.true c.loop-step.planned.items c.match-body_of.planned.items (planned bodies steps) w.planned_step.result
+          (found_body _ _ _ s _ _ w.planned_step.ensures w.in-Some.is c.body_of.ensures)
           (ap (λ (v : Vec Planned Global). v.items) w.planned-is ∙ w.in_ok-push.ensures.items)
           c.loop-step.invariant
       | in_default w ↦ ap (λ (v : Vec Planned Global). v.items ++ planned bodies (drop (i + 1) steps)) w.planned-is

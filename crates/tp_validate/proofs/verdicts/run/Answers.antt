@@ -3,6 +3,7 @@ use Rattle.std.proofs.lemmas.Result.{err_from_is_err_and}
 use Rattle.tp_task.specs.Valid.{events}
 use Rattle.tp_happen.proofs.Answered.{on_range_weaker}
 use Rattle.tp_validate.specs.Found.{IsFound, told}
+use Rattle.tp_validate.proofs.Planning.{last_ends}
 use Rattle.tp_validate.proofs.Ordered.{turn_after, rest_after, within_after, all_done_after}
 use Rattle.tp_validate.proofs.Runs.{before, fault_here, passes_here, fits_here, next}
 use Rattle.tp_validate.proofs.verdicts.run.Goals as goal
@@ -13,7 +14,7 @@ judge_tick-requires-clause-there c = (turn_after (events c.args.steps.now) c.loo
 pub judge_tick-requires-clause-fits : goal.judge_tick-requires-clause-fits
 judge_tick-requires-clause-fits c =
     let t = turn_after (events c.args.steps.now) c.loop-tick.from c.args.agenda.now c.loop-tick.done c.loop-tick.invariant.left c.in-Some.tick.moment c.in-Some.tick.there.now c.in-Some.ensures in
-    fits_here c.args.task.now c.args.steps.now c.loop-tick.from c.in-Some.tick.moment c.loop-tick.state c.loop-tick.invariant.reached t.onward t.covered c.requires.fits
+    fits_here c.args.task.now c.args.steps.now c.loop-tick.from c.in-Some.tick.moment c.loop-tick.state c.loop-tick.invariant.reached t.onward t.covered c.requires.steps.fits
 
 pub returns-in_err-why-clause-range : goal.returns-in_err-why-clause-range
 returns-in_err-why-clause-range c =
@@ -42,10 +43,10 @@ loop-tick-preserved c =
     }
 
 pub overflow_add-from : goal.overflow_add-from
-overflow_add-from c = let t = turn_after (events c.args.steps.now) c.loop-tick.from c.args.agenda.now c.loop-tick.done c.loop-tick.invariant.left c.in-Some.tick.moment c.in-Some.tick.there.now c.in-Some.ensures in let l = t.last in omega (arith, l, c.requires.ends)
+overflow_add-from c = let t = turn_after (events c.args.steps.now) c.loop-tick.from c.args.agenda.now c.loop-tick.done c.loop-tick.invariant.left c.in-Some.tick.moment c.in-Some.tick.there.now c.in-Some.ensures in let l = t.last in omega (arith, l, last_ends 0 c.args.steps.now c.requires.steps.ends)
 
 pub loop-tick-smaller : goal.loop-tick-smaller
-loop-tick-smaller c = let t = turn_after (events c.args.steps.now) c.loop-tick.from c.args.agenda.now c.loop-tick.done c.loop-tick.invariant.left c.in-Some.tick.moment c.in-Some.tick.there.now c.in-Some.ensures in let l = t.last in let o = t.onward in omega (arith, l, o, c.requires.ends)
+loop-tick-smaller c = let t = turn_after (events c.args.steps.now) c.loop-tick.from c.args.agenda.now c.loop-tick.done c.loop-tick.invariant.left c.in-Some.tick.moment c.in-Some.tick.there.now c.in-Some.ensures in let l = t.last in let o = t.onward in omega (arith, l, o, last_ends 0 c.args.steps.now c.requires.steps.ends)
 
 pub returns-clause-ran : goal.returns-clause-ran
 returns-clause-ran c = (c.loop-tick.invariant.reached, all_done_after (events c.args.steps.now) c.loop-tick.from c.args.agenda.now c.loop-tick.done c.loop-tick.invariant.left c.in_default.ensures)
