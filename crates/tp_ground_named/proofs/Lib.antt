@@ -1,3 +1,4 @@
 pub mod OnPicks
+pub mod OnGroups
 pub mod OnChosen
 pub mod OnEnds

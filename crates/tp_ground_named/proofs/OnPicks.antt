@@ -1,5 +1,5 @@
 -- Rows that are picked out of all.
-use Rattle.std.proofs.Common.{◌≡◌, ℕ, zero, suc, ◌+◌, ◌<◌, ◌==◌, Bool, true, false, cond, ◌&&◌, ◌||◌, arith, append-nil, filter_map, List, [], ◌∷◌, ◌++◌, map, filter, length, take, get_or, Option, Some, None, Bor, refl, sym, ap, ◌∙◌, if◌then◌else◌}
+use Rattle.std.proofs.Common.{◌≡◌, ℕ, zero, suc, ◌+◌, ◌<◌, ◌==◌, Bool, true, false, cond, ◌&&◌, ◌||◌, arith, append-nil, List, [], ◌∷◌, ◌++◌, map, filter, length, take, get_or, Option, Some, None, Bor, refl, sym, ap, ◌∙◌, if◌then◌else◌}
 use Rattle.std.specs.List.{flat_map, cons_option}
 use Rattle.std.specs.Str.{bytes_eq}
 use Rattle.std.proofs.lemmas.Bool.{or_right, eqb-true}

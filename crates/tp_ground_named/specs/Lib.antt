@@ -1,4 +1,5 @@
 pub mod Picks
+pub mod Groups
 pub mod Named
 pub use Rattle.tp_ground_bindings.specs.Rows
 pub use Rattle.tp_ground.specs.Reached

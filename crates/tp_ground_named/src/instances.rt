@@ -10,7 +10,8 @@ ghost use Rattle.tp_ground.specs.Instances.{instance_view};
 ghost use Rattle.tp_ground_named.specs.Picks.{row_words};
 ghost use Rattle.tp_ground_named.specs.Named.{chosen_of};
 
-use crate::picks::{pick, rows_in, tails_of};
+use crate::groups::{groups_of, tails_in};
+use crate::picks::{pick, rows_in};
 use std::alloc::{AllocError, Global};
 use tp_ground::Instance;
 use tp_ground_bindings::{Universe, copied, lists_of};
@@ -72,9 +73,10 @@ pub(crate) fn named_instances<'a>(
 {
     let rows = rows_in(alloc, asked)?;
     let lent = rows.as_slice();
+    let groups = groups_of(alloc, lent)?;
     let mut named = Vec::new(alloc);
     for action in actions {
-        let tails = tails_of(alloc, lent, action.name.as_str())?;
+        let tails = tails_in(alloc, &groups, action.name.as_str())?;
         let behind = tails.as_slice();
         push_bound(alloc, universe, action, behind, &mut named)?;
     }

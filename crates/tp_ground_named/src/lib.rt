@@ -1,11 +1,13 @@
 //! The tasks of the ground actions for which names and objects ask.
 //!
+//! - `groups`: rows of names by their first names
 //! - `picks`: rows of names that are picked out of all
 //! - `instances`: the type-correct bindings for which names and objects ask
 //! - `named`: the task of them
 //! - `laws`: what holds of such tasks
 #![tactic(auto)]
 
+mod groups;
 mod instances;
 mod laws;
 mod named;

@@ -1,42 +1,14 @@
 //! Rows of names that are picked out of all, without a look at the others.
 
-ghost use Rattle.std.specs.Prelude.{◌≡◌, ◌++◌, ◌∷◌, [], map, filter, IfOk, OnOk, option_map};
+ghost use Rattle.std.specs.Prelude.{◌≡◌, ◌++◌, ◌∷◌, [], map, filter, IfOk, OnOk};
 ghost use Rattle.tp_task.specs.Words.{has_words};
 ghost use Rattle.tp_ground_bindings.specs.Rows.{names_of, lists_of, product};
-ghost use Rattle.tp_ground_named.specs.Picks.{tails, tail_after, row_words};
+ghost use Rattle.tp_ground_named.specs.Picks.{row_words};
 
+use crate::groups::{groups_of, tails_in};
 use std::alloc::{AllocError, Global};
 use std::borrow::CowSlice;
 use tp_ground_bindings::refill;
-
-// What follows a name in a row that begins with it.
-fn tail_after<'r, 'n>(row: &'r [&'n str], name: &str) -> Option<&'r [&'n str]>
-    ensures { option_map row_words result ≡ tail_after name.now (map (λ w. w.now) row.now) }
-{
-    match row {
-        [] => None,
-        [first, rest @ ..] => { if name == *first { Some(rest) } else { None } }
-    }
-}
-
-/// What follows a name in the rows that begin with it.
-pub(crate) fn tails_of<'r, 'n>(
-    alloc: Global,
-    rows: &[&'r [&'n str]],
-    name: &str,
-) -> Result<Vec<&'r [&'n str]>, AllocError>
-    ensures { IfOk result
-        (λ v. map row_words v.items ≡ tails name.now (map row_words rows.now)) }
-{
-    let mut tails = Vec::new(alloc);
-    for row in rows {
-        match tail_after(*row, name) {
-            Some(tail) => tails.push(tail)?,
-            None => {}
-        }
-    }
-    Ok(tails)
-}
 
 /// The names and objects of some lists, lent.
 pub(crate) fn rows_in<'r, 'n>(
@@ -88,7 +60,7 @@ fn push_behind<'a>(
 }
 
 /// The rows of one name out of each list that are asked for, in order. Takes time in the rows that
-/// are asked for, with the names of the lists for each of them.
+/// are asked for, and for each beginning of one in the names of the list that follows it.
 pub(crate) fn pick<'a>(
     alloc: Global,
     lists: &[CowSlice<'_, &'a str>],
@@ -104,9 +76,10 @@ pub(crate) fn pick<'a>(
     let Some((first, rest)) = lists.split_first() else {
         return pick_none(alloc, rows);
     };
+    let groups = groups_of(alloc, rows)?;
     let names = first.as_slice();
     for name in names {
-        let tails = tails_of(alloc, rows, *name)?;
+        let tails = tails_in(alloc, &groups, *name)?;
         let behind = pick(alloc, rest, &tails)?;
         push_behind(alloc, *name, &behind, &mut picked)?;
     }

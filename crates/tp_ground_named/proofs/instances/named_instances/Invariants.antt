@@ -7,4 +7,4 @@ use Rattle.tp_ground_named.proofs.OnChosen.{chosen_for}
 use Rattle.tp_ground_named.proofs.instances.named_instances.Given as goal
 
 abbrev pub invariant-loop-action : goal.invariant-loop-action
-invariant-loop-action l = map instance_view l.named.items ≡ flat_map (chosen_for (universe_view l.universe) (map row_words l.lent)) (take l.action-index l.actions)
+invariant-loop-action l = map instance_view l.named.items ≡ flat_map (chosen_for (universe_view l.universe) (map row_words l.rows.items)) (take l.action-index l.actions)

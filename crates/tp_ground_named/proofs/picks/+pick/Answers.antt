@@ -1,9 +1,9 @@
-use Rattle.std.proofs.Common.{List, Bor, ℕ, ◌∷◌, map, filter, take, sym, ap, ◌∙◌}
+use Rattle.std.proofs.Common.{List, Bor, ℕ, ◌∷◌, map, filter, sym, ap, ◌∙◌}
 use Rattle.std.specs.Cow.{cow_slice_items}
 use Rattle.std.specs.List.{flat_map}
 use Rattle.std.proofs.lemmas.List.{take_all}
 use Rattle.std.proofs.lemmas.List.Folds.{flat_map-map}
-use Rattle.tp_task.specs.Words.{Words, has_words}
+use Rattle.tp_task.specs.Words.{has_words}
 use Rattle.tp_ground_named.specs.Picks.{row_words}
 use Rattle.tp_ground_bindings.specs.Rows.{Names, names_of, product, lists_of}
 use Rattle.tp_ground_named.proofs.OnPicks.{none_asked, more_picked}
@@ -19,7 +19,7 @@ loop-name-preserved t c =
     more_picked (map row_words c.args.rows.now) (product (lists_of c.in-Some.rest.now)) c.as_slice-names.result.now c.loop-name.name-index _ c.loop-name-test.true _ _ _ _
     c.in_ok-push_behind.ensures
     (ap (map names_of) c.deref-in-loop-name.ensures.value ∙ c.in_ok-behind.ensures)
-    (ap (map row_words) c.deref.ensures.value ∙ c.in_ok-tails.ensures)
+    (ap (map row_words) c.deref.ensures.value ∙ c.in_ok-tails.ensures ∙ c.in_ok-groups.ensures _)
     c.loop-name.invariant
 
 pub returns : goal.returns
