@@ -1,8 +1,8 @@
 //! The agents of events.
 
-use crate::events::Event;
+use crate::events::{Event, put_event};
 use std::str::from_utf8;
-use tp_explain_text::{Count, Page, Source, error_at, put};
+use tp_explain_text::{Count, Page, Source, put_error, put_number_error, puts};
 
 /// The greatest number of an agent.
 const GREATEST: u32 = 1023;
@@ -61,22 +61,27 @@ fn number_of(word: &[u8]) -> Option<u32> {
 }
 
 fn put_counts(page: &mut Page, words: u64, events: u64) {
-    let words = Count(words, "number", "numbers");
-    put!(page; "note: the file has {words}, the network {}\n", Count(events, "event", "events"));
+    puts!(page; "note: the file has ", Count(words, "number", "numbers"), ", the network ",
+        Count(events, "event", "events"), "\n");
 }
 
 /// Puts what is wrong with the number of an agent.
 fn put_number(page: &mut Page, source: Source<'_>, word: &Word<'_>, event: Option<&Event<'_>>) {
     match number_of(word.text) {
         Some(number) if number > GREATEST => {
-            error_at!(page, source, word.at; "agent {number} is past 1023, the greatest");
+            let behind = " is past 1023, the greatest";
+            put_number_error(page, source, word.at, "agent ", u64::from(number), behind);
         }
-        _ => error_at!(page, source, word.at;
-            "expected a number of one to four digits, found `{}`",
-            from_utf8(word.text).unwrap_or("?")),
+        _ => {
+            let text = from_utf8(word.text).unwrap_or("?");
+            let before = "expected a number of one to four digits, found `";
+            put_error(page, source, word.at, &[before, text, "`"]);
+        }
     }
     if let Some(event) = event {
-        put!(page; "note: it is for {event}\n");
+        page.put("note: it is for ");
+        put_event(page, event);
+        page.put("\n");
     }
 }
 
@@ -92,11 +97,13 @@ pub fn put_owner(
     let (word, words) = word_at(source.text, number);
     match (word, event) {
         (None, Some(event)) => {
-            put!(page; "{}: error: {event}, has no agent\n", source.name);
+            page.put_all(&[source.name, ": error: "]);
+            put_event(page, event);
+            page.put(", has no agent\n");
             put_counts(page, words, events);
         }
         (Some(word), None) if number_of(word.text).is_some() => {
-            error_at!(page, source, word.at; "there is no event {number}");
+            put_number_error(page, source, word.at, "there is no event ", number, "");
             put_counts(page, words, events);
         }
         (Some(word), event) => put_number(page, source, &word, event),

@@ -4,10 +4,10 @@ use crate::events::Event;
 use crate::facts::Facts;
 use crate::leaves::{Leaf, Moment};
 use crate::story::Story;
-use crate::texts::put_invalid;
+use crate::texts::{begin_invalid, end_invalid};
 use crate::values::{put_values, put_wanted};
 use std::alloc::AllocError;
-use tp_explain_text::{At, Page, put, put_mark};
+use tp_explain_text::{At, Page, end_headline, puts};
 
 /// The most values that are told.
 const MOST: usize = 3;
@@ -51,9 +51,10 @@ pub(crate) fn tell_condition(
     let Some(leaf) = failing(story, leaves, &facts)? else {
         return Ok(());
     };
-    let tick = story.texts().moment(event.tick);
-    let text = format_args!("the condition of {event} does not hold at {tick}");
-    put_invalid(page, story.texts(), story.step_place(event.step), text);
+    let (texts, place) = (story.texts(), story.step_place(event.step));
+    begin_invalid(page, texts, place);
+    puts!(page; "the condition of ", event, " does not hold at ");
+    end_invalid(page, texts, place, event.tick);
     put_part(page, story, &leaf, event, &facts)
 }
 
@@ -69,9 +70,10 @@ pub(crate) fn tell_invariant(
     let Some(leaf) = failing(story, story.conditions(step, moment)?, &facts)? else {
         return Ok(());
     };
-    let after = story.texts().moment(tick);
-    let text = format_args!("the invariant of step {step} does not hold after {after}");
-    put_invalid(page, story.texts(), story.step_place(step), text);
+    let (texts, place) = (story.texts(), story.step_place(step));
+    begin_invalid(page, texts, place);
+    puts!(page; "the invariant of step ", step, " does not hold after ");
+    end_invalid(page, texts, place, tick);
     put_part(page, story, &leaf, Event { step, moment, tick }, &facts)
 }
 
@@ -82,13 +84,13 @@ pub(crate) fn tell_goal(page: &mut Page, story: &Story<'_>, tick: u32) -> Result
         return Ok(());
     };
     let texts = story.texts();
-    put!(page; "{}invalid: the goal does not hold ", At(texts.problem, leaf.place()));
+    puts!(page; At(texts.problem, leaf.place()), "invalid: the goal does not hold ");
     if story.steps().is_empty() {
-        page.put("in the first state\n");
+        page.put("in the first state");
     } else {
-        put!(page; "at the end, after {}\n", texts.moment(tick));
+        puts!(page; "at the end, after ", texts.moment(tick));
     }
-    put_mark(page, texts.problem, leaf.place());
+    end_headline(page, texts.problem, leaf.place());
     put_wanted(page, story, &leaf, Moment::Only, 0, &facts)?;
     put_values(page, story, &leaf, &facts, MOST)
 }

@@ -1,13 +1,14 @@
 //! What is to come, and why a run ends without a plan.
 
+use crate::bounds::put_id;
 use crate::edges::put_held;
-use crate::lines::InputLine;
+use crate::lines::{InputLine, put_place};
 use crate::names::Numbered;
 use crate::picture::Picture;
 use crate::refusals::Reasons;
 use crate::windows::Windows;
 use std::alloc::AllocError;
-use tp_explain_text::{Count, Moment, Page, Ticks, put, put_mark_of_line, without_return};
+use tp_explain_text::{Count, Moment, Page, Ticks, put_mark_of_line, puts, without_return};
 
 /// The most events that are told one by one.
 const MOST_EVENTS: usize = 6;
@@ -33,18 +34,13 @@ fn put_due(
     high: u64,
 ) {
     let (scale, now) = (reasons.scale, u64::from(picture.now()));
-    let distance = Ticks(scale, high.abs_diff(now));
-    put!(page; "note: {} {}, ", if low == high { "at" } else { "by" }, Moment(scale, high));
-    if high < now {
-        put!(page; "{distance} ago");
-    } else {
-        put!(page; "in {distance}");
-    }
-    put!(page; ": {}", Numbered(reasons.names, event, ""));
+    puts!(page; if low == high { "note: at " } else { "note: by " }, Moment(scale, high),
+        if high < now { ", " } else { ", in " }, Ticks(scale, high.abs_diff(now)),
+        if high < now { " ago: " } else { ": " }, Numbered(reasons.names, event, ""));
     if low < high && low == now {
         page.put(", from now on");
     } else if low < high {
-        put!(page; ", from {} on", Moment(scale, low));
+        puts!(page; ", from ", Moment(scale, low), " on");
     }
     page.put("\n");
 }
@@ -53,7 +49,7 @@ fn put_due(
 fn put_more(page: &mut Page, count: usize) {
     let more = count.saturating_sub(MOST_EVENTS);
     if more > 0 {
-        put!(page; "note: and {}\n", Count(more as u64, "more event", "more events"));
+        puts!(page; "note: and ", Count(more as u64, "more event", "more events"), "\n");
     }
 }
 
@@ -67,14 +63,14 @@ pub fn tell_report(
     let windows = Windows::of(picture)?;
     let mut left = events_left(picture, &windows)?;
     left.sort_unstable();
-    let now = reasons.moment(picture.now());
-    put!(page; "stdin:{}:{}: report: now is {now}, and ", line.number, line.column());
+    put_place(page, line.number, line.column());
+    puts!(page; "report: now is ", reasons.moment(picture.now()), ", and ");
     if left.is_empty() {
         page.put("no event is to come\n");
         return Ok(());
     }
-    let count = Count(picture.left(), "event is", "events are");
-    put!(page; "{count} to come, the next deadline first\n");
+    puts!(page; Count(picture.left(), "event is", "events are"),
+        " to come, the next deadline first\n");
     for (high, event) in left.iter().take(MOST_EVENTS) {
         put_due(page, picture, reasons, *event, windows.low(*event), *high);
     }
@@ -84,8 +80,19 @@ pub fn tell_report(
 
 /// Puts how many events have not happened.
 fn put_left(page: &mut Page, picture: &Picture) {
-    let all = Count(u64::from(picture.events()), "event has", "events have");
-    put!(page; "{} of {all} not happened\n", picture.left());
+    puts!(page; picture.left(), " of ",
+        Count(u64::from(picture.events()), "event has", "events have"), " not happened\n");
+}
+
+/// Puts when an event may happen.
+fn put_may(page: &mut Page, reasons: &Reasons<'_, '_>, event: u16, low: u64, high: u64) {
+    puts!(page; "note: ", Numbered(reasons.names, event, ","),
+        if low == high { " may happen at " } else { " may happen from " },
+        Moment(reasons.scale, low));
+    if low != high {
+        puts!(page; " to ", Moment(reasons.scale, high));
+    }
+    page.put("\n");
 }
 
 /// Puts that events have not happened, and when they may.
@@ -99,15 +106,7 @@ fn tell_left(
     page.put("stdin: no plan: ");
     put_left(page, picture);
     for (high, event) in left.iter().take(MOST_EVENTS) {
-        let named = Numbered(reasons.names, *event, ",");
-        let low = windows.low(*event);
-        let first = Moment(reasons.scale, low);
-        if low == *high {
-            put!(page; "note: {named} may happen at {first}\n");
-        } else {
-            put!(page; "note: {named} may happen from {first} to {}\n",
-                Moment(reasons.scale, *high));
-        }
+        put_may(page, reasons, *event, windows.low(*event), *high);
     }
     put_more(page, left.len());
     Ok(())
@@ -121,10 +120,10 @@ fn tell_withdrawn(
     line: &InputLine,
     id: u32,
 ) -> Result<(), AllocError> {
-    let (number, column) = (line.number, line.column());
-    put!(page; "stdin:{number}:{column}: no plan: bound {id} of the plan was withdrawn\n");
+    put_place(page, line.number, line.column());
+    puts!(page; "no plan: bound ", id, " of the plan was withdrawn\n");
     put_mark_of_line(page, without_return(line.bytes.as_slice()), line.from);
-    put!(page; "note: b{id}: ");
+    put_id(page, u64::from(id));
     put_held(page, picture, reasons, id)?;
     page.put("\nnote: an equal bound that is added does not bring the plan back\n");
     if picture.left() > 0 {

@@ -100,12 +100,18 @@ impl<'a> Story<'a> {
 
     /// Where a step's action stands in the plan.
     pub(crate) fn step_place(&self, step: usize) -> usize {
-        self.steps.get(step).map_or(0, |it| it.name_place)
+        match self.steps.get(step) {
+            Some(it) => it.name_place,
+            None => 0,
+        }
     }
 
     /// Where a step's duration stands in the plan.
     pub(crate) fn duration_place(&self, step: usize) -> usize {
-        self.steps.get(step).map_or(0, |it| it.duration_place)
+        match self.steps.get(step) {
+            Some(it) => it.duration_place,
+            None => 0,
+        }
     }
 
     /// Where memory comes from.
@@ -357,8 +363,7 @@ fn changed(verb: Verb, old: Option<i64>, value: i64) -> Option<i64> {
 fn write_one(facts: &mut Facts, write: &Write) -> Result<(), AllocError> {
     let name = write.name.as_str();
     let is_fluent = write.verb.is_numeric();
-    let old = facts.fluent(name).map(|fact| fact.value);
-    let Some(value) = changed(write.verb, old, write.value) else {
+    let Some(value) = changed(write.verb, facts.value(name), write.value) else {
         return Ok(());
     };
     let origin = Origin::Event(write.event, write.verb);

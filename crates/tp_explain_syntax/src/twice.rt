@@ -4,19 +4,20 @@ use crate::declarations::{
     Declared, Fault, Kind, declarations_of, find_named, typed_items, word_at,
 };
 use std::alloc::{AllocError, Global};
-use std::fmt;
-use tp_explain_text::{At, Lower, Page, Role, Source, Step, Symbol, Tree, error_at, head_of, put};
+use tp_explain_text::{
+    Page, Role, Source, Step, Symbol, Tree, begin_error, end_headline, error_at, put_note,
+};
 use tp_syntax_ast::{ProblemSection, Section};
 
 /// Puts where the first one stands.
 fn put_first(page: &mut Page, source: Source<'_>, at: usize) {
-    put!(page; "{}note: the first is here\n", At(source, at));
+    put_note(page, source, at, &["the first is here"]);
 }
 
 /// Puts that a section stands twice.
 fn put_section(page: &mut Page, fault: &Fault<'_>, outer: &Step<'_>, word: &str) {
     let source = fault.text.source;
-    error_at!(page, source, fault.at; "the section `{word}` stands twice");
+    error_at!(page, source, fault.at; "the section `", word, "` stands twice");
     let first = outer
         .items
         .iter()
@@ -29,7 +30,7 @@ fn put_section(page: &mut Page, fault: &Fault<'_>, outer: &Step<'_>, word: &str)
 /// Puts that a field of an action stands twice.
 fn put_field(page: &mut Page, fault: &Fault<'_>, step: &Step<'_>, word: &str) {
     let (source, name) = (fault.text.source, word_at(step.items, 1));
-    error_at!(page, source, fault.at; "the field `{word}` of `{name}` stands twice");
+    error_at!(page, source, fault.at; "the field `", word, "` of `", name, "` stands twice");
     if let Some(first) = step.items.iter().find(|tree| tree.is(word)) {
         put_first(page, source, first.place());
     }
@@ -44,7 +45,8 @@ fn put_name<'t>(
 ) -> Result<(), AllocError> {
     let kind = kind_in(step);
     let names = names_among(page.alloc(), fault, kind, step)?;
-    error_at!(page, fault.text.source, fault.at; "the {kind} `{word}` is declared twice");
+    let source = fault.text.source;
+    error_at!(page, source, fault.at; "the ", kind.word(), " `", word, "` is declared twice");
     if let Some(first) = find_named(names.as_slice(), word) {
         put_first(page, fault.world.source_of(&first), first.at);
     }
@@ -153,23 +155,15 @@ fn clashes(before: &Entry<'_>, entry: &Entry<'_>) -> bool {
     same_words(before.atom, entry.atom) && differ != valued
 }
 
-/// An atom or a fluent in small letters.
-#[derive(Clone, Copy)]
-struct Atom<'t>(&'t [Tree]);
-
-impl fmt::Display for Atom<'_> {
-    fn fmt<W: fmt::Write>(&self, f: &mut fmt::Formatter<W>) -> fmt::Result {
-        write!(f, "(")?;
-        for (number, tree) in self.0.iter().enumerate() {
-            write!(
-                f,
-                "{}{}",
-                if number == 0 { "" } else { " " },
-                Lower(tree.word())
-            )?;
-        }
-        write!(f, ")")
+/// Puts an atom or a fluent in small letters.
+fn put_atom(page: &mut Page, atom: &[Tree]) {
+    let mut before = "(";
+    for tree in atom {
+        page.put(before);
+        page.put_lower(tree.word());
+        before = " ";
     }
+    page.put(if atom.is_empty() { "()" } else { ")" });
 }
 
 /// Puts that an entry of `:init` clashes with one before it.
@@ -178,12 +172,16 @@ fn put_entry(page: &mut Page, source: Source<'_>, section: &Step<'_>) {
         return;
     };
     let entry = entry_of(tree);
-    let atom = Atom(entry.atom);
-    if entry.said == Said::Value {
-        error_at!(page, source, entry.at; "`:init` gives {atom} a second value");
+    let (gives, again) = if entry.said == Said::Value {
+        ("`:init` gives ", " a second value")
     } else {
-        error_at!(page, source, entry.at; "`:init` has {atom} both with and without `not`");
-    }
+        ("`:init` has ", " both with and without `not`")
+    };
+    begin_error(page, source, entry.at);
+    page.put(gives);
+    put_atom(page, entry.atom);
+    page.put(again);
+    end_headline(page, source, entry.at);
     for tree in section.items.iter().take(section.child).skip(1) {
         let before = entry_of(tree);
         if clashes(&before, &entry) {
