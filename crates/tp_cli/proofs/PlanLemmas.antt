@@ -1,5 +1,5 @@
 -- What is said of the plan that the words name, and why nothing is.
-use Rattle.std.proofs.Common.{◌≡◌, ◌≤◌, ◌∙◌, ℕ, List, [], Option, Bool, true, false, ◌⊎◌, inl, inr, refl, subst, sym}
+use Rattle.std.proofs.Common.{◌≡◌, ◌≤◌, ◌∙◌, ℕ, List, [], Option, Bool, ◌⊎◌, inl, inr, refl, subst, sym}
 use Rattle.std.specs.Prelude.{Err}
 use Rattle.std.specs.Io.KnownBytes.{Appends}
 use Rattle.tp_device.specs.Bytes.{AppendsPart}

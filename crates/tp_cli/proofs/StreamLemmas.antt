@@ -31,8 +31,8 @@ use Rattle.tp_cli_split.specs.Splits.{SplitsPart, WritesPlan as WritesIntervals,
 use Rattle.tp_cli_plan.specs.declared.search_words.SearchWords.{SearchWords}
 use Rattle.tp_cli_draw.specs.Draws.{DrawsPart, WritesDrawn}
 use Rattle.tp_cli_inputs.specs.declared.draw_words.DrawWords.{DrawWords}
-use Rattle.tp_cli_resume.specs.Bare.{ResumesBare, ResumesPart, SaysWrongOld}
-use Rattle.tp_cli_resume.specs.Run.{GoesOfPlan, ResumesRun}
+use Rattle.tp_cli_audit.specs.BareResume.{ResumesBare, ResumesPart, SaysWrongOld}
+use Rattle.tp_cli_audit.specs.RunResume.{GoesOfPlan, ResumesRun}
 use Rattle.tp_cli.specs.CallFiles.{CallFiles, journal_file}
 use Rattle.tp_cli.specs.Checks.{SaysPart, SaysValid}
 use Rattle.tp_cli.specs.Done.{AnswersNo, DoesPart, DoesWhatIsAsked, IsAnsweredNo, IsDone, IsPartDone}

@@ -12,8 +12,8 @@ use Rattle.tp_cli_plan.specs.Searches.{SaysNoPlan, SearchesPart, WritesPlan}
 use Rattle.tp_cli_split.specs.Splits.{SplitsPart, WritesSplit}
 use Rattle.tp_cli_run.specs.RunJournals.{LogsToNone, LogsToPlan}
 use Rattle.tp_cli_draw.specs.Draws.{Draws, DrawsNo, DrawsPart}
-use Rattle.tp_cli_resume.specs.Bare.{ResumesBare, ResumesPart, SaysWrongOld}
-use Rattle.tp_cli_resume.specs.Run.{ResumesRun, StopsEarly}
+use Rattle.tp_cli_audit.specs.BareResume.{ResumesBare, ResumesPart, SaysWrongOld}
+use Rattle.tp_cli_audit.specs.RunResume.{ResumesRun, StopsEarly}
 use Rattle.tp_cli.specs.CallFiles.{CallFiles, journal_file}
 use Rattle.tp_cli.specs.Checks.{SaysPart, SaysValid}
 use Rattle.tp_cli.specs.Journaled.{LogsSome, LogsTo}

@@ -13,8 +13,8 @@ use Rattle.tp_cli_plan.specs.SearchStops.{EndsSearch}
 use Rattle.tp_cli_split.specs.Splits.{EndsSplit}
 use Rattle.tp_cli_run.specs.RunJournals.{EndsRunLog}
 use Rattle.tp_cli_draw.specs.Draws.{EndsDraw}
-use Rattle.tp_cli_resume.specs.Bare.{EndsResumed}
-use Rattle.tp_cli_resume.specs.Run.{EndsRunResumed}
+use Rattle.tp_cli_audit.specs.BareResume.{EndsResumed}
+use Rattle.tp_cli_audit.specs.RunResume.{EndsRunResumed}
 use Rattle.tp_cli.specs.CallFiles.{CallFiles, journal_file}
 use Rattle.tp_cli_run.specs.LogFile.{AskedOnce}
 use Rattle.tp_cli.specs.Checks.{EndsCheck}

@@ -14,9 +14,9 @@
 //!
 //! The words of a call are read by `tp_cli_args`. Commands on a network of bounds alone are those
 //! of `tp_cli_bare`, files and fault lines those of `tp_cli_files`, tasks and verdicts of files
-//! those of `tp_cli_inputs`, runs of plans those of `tp_cli_run`, runs that go on those of
-//! `tp_cli_resume`, searches those of `tp_cli_plan`, audits those of `tp_cli_audit`, splits those
-//! of `tp_cli_split`, drawings those of `tp_cli_draw`.
+//! those of `tp_cli_inputs`, runs of plans those of `tp_cli_run`, audits and runs that go on those
+//! of `tp_cli_audit`, searches those of `tp_cli_plan`, splits those of `tp_cli_split`, drawings
+//! those of `tp_cli_draw`.
 #![tactic(auto)]
 
 mod check;

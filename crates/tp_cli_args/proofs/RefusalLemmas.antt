@@ -1,16 +1,16 @@
 -- What words are refused: those that ask for nothing whose files are apart.
-use Rattle.std.proofs.Common.{◌≡◌, ◌⊎◌, ◌≤◌, ◌<◌, ◌^◌, ap, arith, ℕ, ◌∷◌, inl, inr, refl, sym, subst, List, [], Option, Some, None, codes}
+use Rattle.std.proofs.Common.{◌≡◌, ◌⊎◌, ◌≤◌, ◌<◌, ◌^◌, arith, ℕ, ◌∷◌, inl, inr, refl, sym, subst, List, [], Option, Some, None, codes}
 use Rattle.std.specs.Prelude.{Err, IfErr, IfNone, IfOk, IfSome, Ok, Result, ⊤}
 use Rattle.std.specs.Option.{ok_or}
 use Rattle.std.specs.Bool.{MatchBool}
 use Rattle.std.specs.Str.{bytes_eq}
-use Rattle.clap.specs.Words.{FailsBy, HasKind, IsAmong, Row, Text, fault_of, kind_of, subcommand_of}
+use Rattle.clap.specs.Words.{FailsBy, IsAmong, Row, Text, fault_of, kind_of, subcommand_of}
 use Rattle.clap.specs.declared.error.Error.{Error}
 use Rattle.clap.specs.declared.error.kind.ErrorKind.{ErrorKind}
-use Rattle.clap.specs.declared.error.kind.ErrorKind.TheVariants.{DisplayHelp, DisplayVersion, OutOfMemory}
+use Rattle.clap.specs.declared.error.kind.ErrorKind.TheVariants.{OutOfMemory}
 use Rattle.tp_cli_args.specs.Commands.{tempo_app}
 use Rattle.tp_cli_args.specs.declared.arguments.NoRequest.{NoRequest}
-use Rattle.tp_cli_args.specs.declared.arguments.NoRequest.TheVariants.{Memory, Words}
+use Rattle.tp_cli_args.specs.declared.arguments.NoRequest.TheVariants.{Memory}
 use Rattle.tp_text.specs.Scales.{scale_ticks}
 use Rattle.tp_text.specs.declared.number.Scale.{Scale}
 use Rattle.tp_text.specs.declared.number.Scale.TheVariants.{One, Ten, Hundred, Thousand}

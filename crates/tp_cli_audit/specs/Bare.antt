@@ -1,5 +1,5 @@
 -- The audit of a journal of a network of bounds alone.
-use Rattle.std.specs.Prelude.{◌≡◌, ℕ, ◌+◌, ◌<◌, ◌≤◌, ◌⊎◌, List, [], ◌∷◌, Option, Some, None, Bool, true, false, Err, IfSome}
+use Rattle.std.specs.Prelude.{◌≡◌, ℕ, ◌<◌, ◌≤◌, ◌⊎◌, List, [], ◌∷◌, Option, Some, None, Bool, true, false, Err, IfSome}
 use Rattle.std.specs.List.{All}
 use Rattle.std.specs.Io.KnownBytes.{Appends}
 use Rattle.tp_device.specs.Bytes.{AppendsPart}
@@ -13,7 +13,7 @@ use Rattle.tp_journal.specs.Telling.{IsHeadTold}
 use Rattle.tp_journal.specs.declared.faults.JournalHead.{JournalHead}
 use Rattle.tp_cli_bare.specs.Bare.{first_machine, first_setting}
 use Rattle.tp_cli_audit.specs.AuditLines.{stop_status, stop_text, stop_unread}
-use Rattle.tp_cli_audit.specs.Audits.{BreaksLog, IsFound, Says, found_line, say_failures}
+use Rattle.tp_cli_audit.specs.Audits.{BreaksLog, IsFound, found_line, say_failures}
 use Rattle.tp_cli_audit.specs.declared.audit_lines.AuditStop.{AuditStop}
 use Rattle.tp_cli_audit.specs.declared.audit_lines.AuditStop.TheVariants.{Open, Network, Memory, Read, Line, Head, Write}
 use Rattle.tp_cli_audit.specs.declared.auditing.Found.{Found}

@@ -4,3 +4,9 @@ pub mod Bare
 pub mod AuditStops
 pub mod Ends
 pub mod PlanAudits
+pub mod Old
+pub mod ResumeStops
+pub mod Going
+pub mod BareResume
+pub mod RunResumeStops
+pub mod RunResume

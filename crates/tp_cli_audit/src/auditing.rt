@@ -29,7 +29,7 @@ pub enum Found {
 }
 
 /// The head of the journal that a source has left.
-pub fn head_of<S: Source>(alloc: Global, source: &mut S) -> Result<JournalHead, AuditStop>
+pub(crate) fn head_of<S: Source>(alloc: Global, source: &mut S) -> Result<JournalHead, AuditStop>
     ensures head { IfOk result
         (λ head. IfSome (S.left source.old) (λ bytes. IsHeadTold bytes head)) }
     ensures cause { IfErr result (HindersHead (S.left source.old)) }
@@ -83,7 +83,7 @@ pub fn head_in<N: Files>(alloc: Global, files: &mut N, log: &str) -> Result<Jour
 /// # Errors
 /// `Read` where a read fails, `Memory`; `Line(n)` where line n breaks the format; `Head` for the
 /// head of another executive.
-pub fn replay_of<S: Source>(
+pub(crate) fn replay_of<S: Source>(
     alloc: Global,
     source: &mut S,
     executive: &mut Executive<RepairNet>,
@@ -116,7 +116,7 @@ pub fn replay_of<S: Source>(
 ///
 /// # Errors
 /// Those of `replay_of`.
-pub fn audit_of<S: Source>(
+pub(crate) fn audit_of<S: Source>(
     alloc: Global,
     source: &mut S,
     executive: Executive<RepairNet>,

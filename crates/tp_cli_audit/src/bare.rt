@@ -24,7 +24,7 @@ use tp_net::Net;
 use tp_repair::RepairNet;
 
 /// Whether all lags are of so many events, and in range. One look at each.
-pub fn lags_fit(events: u16, lags: &[(u16, u32)]) -> bool
+pub(crate) fn lags_fit(events: u16, lags: &[(u16, u32)]) -> bool
     ensures { IsTrue result ↔ All (LagFits events) lags.now }
 {
     lags.iter().all(|lag| lag.0 < events && lag.1 <= MOST_LAG)
@@ -50,7 +50,7 @@ pub fn is_bare(head: &JournalHead) -> bool
 }
 
 /// Sets the lags of a new network, one after another. It takes no memory.
-pub fn set_lags<N: Net>(net: &mut N, lags: &[(u16, u32)])
+pub(crate) fn set_lags<N: Net>(net: &mut N, lags: &[(u16, u32)])
     requires start { (N.seen net.old).clock ≡ 0 }
     requires fit { All (LagFits (event_count (N.seen net.old))) lags.now }
     ensures set { N.seen net.new ≡ lagged (N.seen net.old) lags.now }

@@ -8,9 +8,11 @@ ghost use Rattle.tp_cli_audit.specs.AuditStops.{plan_stop_failures, plan_stop_un
 ghost use Rattle.tp_cli_audit.specs.Ends.{HindersNet, SaysNet, SaysSteps, SaysVerdict, StopsNet, StopsSteps, StopsVerdict, audit_result};
 ghost use Rattle.tp_cli_audit.specs.PlanAudits.{IsNetFound};
 
+use crate::audit_lines::AuditStop;
+use crate::auditing::{Found, audit_of};
 use crate::starting::{lags_suit, plan_start};
 use crate::stop_lines::PlanAuditStop;
-use crate::{AuditStop, Found, audit_of, say};
+use crate::verdicts::say;
 use std::alloc::Global;
 use tp_bounds::{Limits, PlanNet};
 use tp_cli_inputs::write_invalid;

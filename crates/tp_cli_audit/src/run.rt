@@ -9,9 +9,10 @@ ghost use Rattle.tp_cli_audit.specs.PlanAudits.{EndsPlanAudit, SaysPlan, SaysPla
 ghost use Rattle.tp_cli_inputs.specs.Named.{IsNamedPlan};
 ghost use Rattle.tp_validate.specs.OfTask.{IsOfTask};
 
+use crate::audit_lines::AuditStop;
+use crate::auditing::head_in;
 use crate::plan_auditing::audit_verdict;
 use crate::stop_lines::{PlanAuditStop, plan_stop_line};
-use crate::{AuditStop, head_in};
 use std::alloc::Global;
 use tp_cli_files::{Files, OUT_OF_ORDER, REFUSED, complain};
 use tp_cli_inputs::{NamedPlan, PlanWords, plan_in, verdict_of};

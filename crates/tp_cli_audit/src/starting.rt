@@ -9,7 +9,7 @@ ghost use Rattle.tp_exec.specs.FromPlan.{CameFrom};
 ghost use Rattle.tp_journal_pairs.specs.Writing.{IsNewExecutive};
 ghost use Rattle.tp_cli_audit.specs.PlanAudits.{LagsFit, audit_machine};
 
-use crate::{lags_fit, set_lags};
+use crate::bare::{lags_fit, set_lags};
 use std::alloc::{AllocError, Global};
 use tp_bounds::{Limits, PlanNet};
 use tp_exec_machine::Executive;

@@ -4,7 +4,7 @@ ghost use Rattle.std.specs.Prelude.{◌≡◌};
 ghost use Rattle.tp_cli_files.specs.FaultLines.{fault_text};
 ghost use Rattle.tp_cli_audit.specs.AuditStops.{plan_stop_status, plan_stop_text};
 
-use crate::{AuditStop, audit_stop_line};
+use crate::audit_lines::{AuditStop, audit_stop_line};
 use tp_cli_files::FaultLine;
 use tp_cli_inputs::{JudgeFault, PlanWords, judge_line};
 use tp_cli_run::network_line;
@@ -23,7 +23,11 @@ pub enum PlanAuditStop {
 
 /// The line of an audit that was hindered, of the file of a name against the plan that the words
 /// name.
-pub fn plan_stop_line<'w>(stop: PlanAuditStop, log: &'w str, words: PlanWords<'w>) -> FaultLine<'w>
+pub(crate) fn plan_stop_line<'w>(
+    stop: PlanAuditStop,
+    log: &'w str,
+    words: PlanWords<'w>,
+) -> FaultLine<'w>
     ensures status { result.status ≡ plan_stop_status stop }
     ensures text { fault_text result ≡ plan_stop_text log.entry.now words.entry stop }
 {

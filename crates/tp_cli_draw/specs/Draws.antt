@@ -11,7 +11,6 @@ use Rattle.tp_validate.specs.Answers.{IsFirst}
 use Rattle.tp_validate.specs.OfTask.{IsValidPlan}
 use Rattle.tp_validate.specs.declared.ticks.Fault.{Fault}
 use Rattle.tp_deorder.specs.Answers.{OnTooMany, PassesLimits}
-use Rattle.tp_journal.specs.declared.faults.JournalHead.{JournalHead}
 use Rattle.tp_cli_files.specs.Causes.{raised}
 use Rattle.tp_cli_files.specs.FaultLines.{Tells}
 use Rattle.tp_cli_inputs.specs.Causes.{Explains}

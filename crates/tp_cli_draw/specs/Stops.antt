@@ -1,5 +1,5 @@
 -- The lines of what stops a picture, and their exit statuses.
-use Rattle.std.specs.Prelude.{ℕ, ◌+◌, List, [], Option, Some, None, Bool, true, false, Result, Ok, Err, codes, option_map}
+use Rattle.std.specs.Prelude.{ℕ, ◌+◌, List, [], Option, Some, None, Bool, true, false, Result, Ok, Err, option_map}
 use Rattle.tp_cli_files.specs.FaultLines.{line_of}
 use Rattle.tp_cli_files.specs.declared.faults.Part.TheVariants as parts
 use Rattle.tp_cli_files.specs.declared.faults.Fault.TheVariants as faults

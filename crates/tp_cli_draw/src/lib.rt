@@ -4,7 +4,8 @@
 //! - `stops`: why nothing is drawn, and the line of it
 //! - `beginning`: the executive over a plan's network, before anything happened
 //! - `replaying`: the run of a journal, carried out anew
-//! - `scenes`: what a picture is of
+//! - `picture`: pictures, their layout and their text
+//! - `scenes`: the scene of a plan, with what an executive tells
 //! - `answers`: what is written: a picture, or why there is none
 //! - `named`: the plan that words name, with the names of its domain and its problem
 //! - `drawing`: the picture of a plan, and that of a journal's run
@@ -16,6 +17,7 @@ mod beginning;
 mod draw_words;
 mod drawing;
 mod named;
+mod picture;
 mod replaying;
 mod run;
 mod scenes;

@@ -4,9 +4,9 @@ ghost use Rattle.std.specs.Prelude.{◌≡◌, ℕ};
 ghost use Rattle.tp_cli_files.specs.Causes.{counted};
 ghost use Rattle.tp_cli_draw.specs.Stops.{replay_unread};
 
+use crate::picture::Refusals;
 use std::alloc::{AllocError, Global};
 use tp_device::Source;
-use tp_draw::Refusals;
 use tp_exec_machine::{Answer, Command, Executive, Refusal, perform};
 use tp_journal_pairs::begins_with;
 use tp_net::Net;

@@ -2,11 +2,11 @@
 //! executive tells.
 
 use crate::named::Names;
+use crate::picture::{Event, Order, Part, Run, Scene, Step};
 use crate::replaying::Told;
 use std::alloc::{AllocError, Global};
 use tp_bounds::{BoundId, Point};
 use tp_deorder::has_two;
-use tp_draw::{Event, Order, Part, Run, Scene, Step};
 use tp_exec_machine::{Executive, Kind, Refusal};
 use tp_happen::Step as PlanStep;
 use tp_net::Net;

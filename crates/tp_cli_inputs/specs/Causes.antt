@@ -3,7 +3,7 @@ use Rattle.std.specs.Prelude.{ℕ, List, [], Option, ◌⊎◌}
 use Rattle.tp_bounds.specs.RunLimits.{greatest_limits}
 use Rattle.tp_syntax_ast.specs.Problems.{IsRefusedProblem}
 use Rattle.tp_syntax.specs.Domains.{Domain, SpellsDomain}
-use Rattle.tp_syntax.specs.Problems.{Problem, SpellsProblem}
+use Rattle.tp_syntax.specs.Problems.{Problem}
 use Rattle.tp_syntax.specs.Refusals.{IsRefusedDomain}
 use Rattle.tp_ground_named.specs.Named.{chosen, HasNoTaskOf}
 use Rattle.tp_task.specs.declared.task.Task as task

@@ -16,4 +16,5 @@ mod tasks;
 
 pub use planning::run_plan;
 pub use search_words::{Order, SearchWords};
+pub use tasks::{Inputs, inputs_in, joined_task, reached_task};
 pub use tp_solve::Wishes;

@@ -25,9 +25,9 @@ use tp_task::Task;
 
 /// A domain, and a problem of it.
 #[derive(Drop)]
-pub(crate) struct Inputs {
-    pub(crate) domain: Domain,
-    pub(crate) problem: Problem,
+pub struct Inputs {
+    pub domain: Domain,
+    pub problem: Problem,
 }
 
 /// A domain with the problem that the words name.
@@ -50,7 +50,7 @@ fn inputs_of<N: Files>(
 
 /// The domain and the problem that the words name. A file is opened only when what stands before it
 /// is done.
-pub(crate) fn inputs_in<N: Files>(
+pub fn inputs_in<N: Files>(
     alloc: Global,
     files: &mut N,
     words: PlanWords<'_>,
@@ -65,7 +65,7 @@ pub(crate) fn inputs_in<N: Files>(
 }
 
 /// The task of the actions that the relaxed reach keeps.
-pub(crate) fn reached_task(
+pub fn reached_task(
     alloc: Global,
     words: PlanWords<'_>,
     inputs: &Inputs,
@@ -86,11 +86,7 @@ pub(crate) fn reached_task(
 }
 
 /// The task of the actions that joins leave, None where it has none within the limits.
-pub(crate) fn joined_task(
-    alloc: Global,
-    words: PlanWords<'_>,
-    inputs: &Inputs,
-) -> Option<JoinedTask>
+pub fn joined_task(alloc: Global, words: PlanWords<'_>, inputs: &Inputs) -> Option<JoinedTask>
     requires { words.horizon ≤ 1000000000 }
     ensures some { IfSome result (λ j. IsJoinedTask (greatest_limits words.entry.horizon)
         words.entry.scale (domain_view inputs.now.domain) (problem_view inputs.now.problem)

@@ -1,5 +1,5 @@
 -- A call that is listened to ends as one that is not.
-use Rattle.std.proofs.Common.{◌≡◌, ℕ, List, Option, Some, None, option_map, refl, sym, subst}
+use Rattle.std.proofs.Common.{◌≡◌, ℕ, List, Option, Some, None, option_map, sym, subst}
 use Rattle.tp_cli.specs.CallFiles.{CallFiles}
 use Rattle.tp_cli.specs.Streams.{Ends}
 

@@ -9,9 +9,6 @@ use tp_cli_inputs::PlanWords;
 use tp_explain_story::Watch;
 use tp_explain_text::Page;
 
-/// The greatest horizon that words may name.
-const MOST_HORIZON: u32 = 1_000_000_000;
-
 /// The most bytes that are kept of the first line of the output.
 const LONGEST_VERDICT: usize = 64;
 
@@ -120,7 +117,7 @@ impl<'w> Narrator<'w> {
         self.has_tried = true;
         match self.topic {
             Topic::Bare => self.watch.begin_bare(),
-            Topic::Run(words) if words.horizon <= MOST_HORIZON => {
+            Topic::Run(words) => {
                 begin_run(self.alloc, &mut self.watch, files, words)?;
                 self.watch.take_lags()
             }
@@ -195,10 +192,8 @@ impl<'w> Narrator<'w> {
     ) -> Result<(), AllocError> {
         match self.topic {
             Topic::Run(words) => self.tell_run(status, files, words, page),
-            Topic::Net(words) if status == 0 && words.horizon <= MOST_HORIZON => {
-                tell_net(page, files, words)
-            }
-            Topic::Part(words, owners, agent) if status == 0 && words.horizon <= MOST_HORIZON => {
+            Topic::Net(words) if status == 0 => tell_net(page, files, words),
+            Topic::Part(words, owners, agent) if status == 0 => {
                 tell_part(page, files, words, owners, agent);
                 Ok(())
             }

@@ -5,7 +5,7 @@ ghost use Rattle.tp_validate.specs.OfTask.{IsOfTask};
 use crate::sources::{PlanTexts, lowered, texts_of};
 use std::alloc::{AllocError, Global};
 use tp_agents::read_owners;
-use tp_bounds::{Bound, Limits, MOST_HORIZON, PlanNet};
+use tp_bounds::{Limits, MOST_HORIZON, PlanNet};
 use tp_cli_files::{Files, open_text};
 use tp_cli_inputs::{NamedPlan, PlanWords, plan_in, verdict_of};
 use tp_deorder::deorder;
@@ -40,13 +40,9 @@ pub(crate) fn network_in<N: Files>(
     files: &mut N,
     words: PlanWords<'_>,
 ) -> Option<PlanNet> {
-    let words = PlanWords {
-        domain: words.domain,
-        problem: words.problem,
-        plan: words.plan,
-        scale: words.scale,
-        horizon: words.horizon.min(MOST_HORIZON),
-    };
+    if words.horizon > MOST_HORIZON {
+        return None;
+    }
     match plan_in(alloc, files, words) {
         Ok(named) => {
             let NamedPlan { task, plan } = named;

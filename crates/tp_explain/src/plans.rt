@@ -3,18 +3,12 @@
 use crate::executives::plan_words;
 use crate::goals::{put_unmet, unmet_goal};
 use std::alloc::{AllocError, Global};
-use tp_bounds::Limits;
 use tp_cli_files::Files;
-use tp_cli_inputs::{domain_in, problem_in};
+use tp_cli_plan::{inputs_in, joined_task, reached_task};
 use tp_explain_faults::{Call, ReadText, read_text, text_of};
 use tp_explain_syntax::section_of;
 use tp_explain_text::{Moment, Page, put};
-use tp_ground::ground_reached;
-use tp_ground_joins::ground_joined;
-use tp_ground_named::begin;
-use tp_syntax::{Domain, Problem};
 use tp_task::{Task, reach};
-use tp_text::Scale;
 
 fn put_horizon(page: &mut Page, call: &Call<'_>) {
     let moment = Moment(call.scale.ticks(), u64::from(call.horizon));
@@ -46,36 +40,17 @@ pub fn put_exhausted(page: &mut Page, call: &Call<'_>) {
     put_horizon(page, call);
 }
 
-/// The task of each action that a valid plan may have, if joins find it.
-fn whole_task(
-    alloc: Global,
-    domain: &Domain,
-    problem: &Problem,
-    limits: &Limits,
-    scale: Scale,
-) -> Option<Task> {
-    match begin(alloc, domain, problem, limits) {
-        Ok(begun) => match ground_joined(alloc, domain, problem, begun, limits, scale) {
-            Ok(joined) if joined.is_whole => Some(joined.task),
-            _ => None,
-        },
-        Err(_) => None,
-    }
-}
-
 /// The task that a call searches: with the actions in reach, or of `solve` with those of use.
 fn task_of<N: Files>(alloc: Global, files: &mut N, call: &Call<'_>) -> Option<Task> {
     let words = plan_words(call)?;
-    let domain = domain_in(alloc, files, words).ok()?;
-    let problem = problem_in(alloc, files, words, &domain).ok()?;
-    let limits = Limits::greatest(words.horizon);
+    let inputs = inputs_in(alloc, files, words).ok()?;
     if call.command == "solve" {
-        let whole = whole_task(alloc, &domain, &problem, &limits, call.scale);
-        if whole.is_some() {
-            return whole;
+        match joined_task(alloc, words, &inputs) {
+            Some(joined) if joined.is_whole => return Some(joined.task),
+            _ => {}
         }
     }
-    ground_reached(alloc, &domain, &problem, &limits, call.scale).ok()
+    reached_task(alloc, words, &inputs).ok()
 }
 
 /// Puts which conjunct of the goal of a problem is out of reach.

@@ -1,7 +1,7 @@
 //! Whether what running steps need at their ends can come before them.
 
 use std::alloc::{AllocError, Global};
-use tp_guided_relaxed::{INF, Interval, Relaxed, value};
+use tp_guided_costs::{INF, Interval, Relaxed, value};
 use tp_search_compiled::{Action, Buckets, NONE, Op, Running, State, Task, small};
 
 // The time until the last running step ends has at most so many parts.

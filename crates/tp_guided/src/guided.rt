@@ -4,7 +4,7 @@ use crate::ready::Ready;
 use crate::rounds::Rounds;
 use crate::search::{Outcome, Search};
 use std::alloc::{AllocError, Global};
-use tp_guided_space::Chosen;
+use tp_guided_walk::Chosen;
 use tp_happen::Step;
 use tp_task::{ActionId, Task};
 

@@ -2,8 +2,7 @@
 
 use crate::deadlines::least_ticks;
 use std::alloc::{AllocError, Global};
-use tp_guided_costs::Heuristic;
-use tp_guided_relaxed::{Relaxed, build};
+use tp_guided_costs::{Heuristic, Relaxed, build};
 use tp_search_compiled::{State, Task, Watched, small};
 use tp_task::{Body, met, reach};
 

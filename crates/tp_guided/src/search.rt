@@ -7,8 +7,7 @@ use crate::ready::Ready;
 use crate::rounds::Round;
 use std::alloc::{AllocError, Global};
 use tp_guided_costs::{DEAD, Heuristic};
-use tp_guided_space::{Choice, Chosen, Space};
-use tp_guided_walk::Walk;
+use tp_guided_walk::{Choice, Chosen, Space, Walk};
 use tp_search_compiled::{Buckets, NONE};
 
 // Values from here on are one.

@@ -1,8 +1,8 @@
 //! The operators of a relaxed plan: which are in it, and which of them add a proposition most
 //! cheaply.
 
+use crate::relaxed::Relaxed;
 use std::alloc::{AllocError, Global};
-use tp_guided_relaxed::Relaxed;
 use tp_search_compiled::NONE;
 
 /// The operators of a relaxed plan.

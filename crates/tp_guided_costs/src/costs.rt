@@ -1,7 +1,8 @@
 //! What propositions and operators cost in a state with running steps.
 
+use crate::interval::{Interval, may_hold, value};
+use crate::relaxed::{Compared, Relaxed};
 use std::alloc::{AllocError, Global};
-use tp_guided_relaxed::{Compared, Interval, Relaxed, may_hold, value};
 use tp_search_compiled::{Buckets, NONE, Running, State, Task, small};
 
 /// The cost of what is never reached.

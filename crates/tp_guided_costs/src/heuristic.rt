@@ -3,10 +3,10 @@
 use crate::chosen::Chosen;
 use crate::costs::{Costs, DEAD};
 use crate::counted::{Starts, Wanted, forget};
+use crate::relaxed::Relaxed;
 use crate::standing::Standing;
 use crate::wanted::{Wants, extract};
 use std::alloc::{AllocError, Global};
-use tp_guided_relaxed::Relaxed;
 use tp_search_compiled::{NONE, Running, State, Task};
 
 /// The value of the state that was evaluated last, and its relaxed plan. All room is kept from one

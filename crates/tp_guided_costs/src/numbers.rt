@@ -1,8 +1,8 @@
 //! What operators that fired do to the ranges of fluents, and which comparisons that helps.
 
 use crate::costs::{CAP, Costs};
+use crate::interval::{INF, Interval, gap, may_hold, value};
 use std::alloc::AllocError;
-use tp_guided_relaxed::{INF, Interval, gap, may_hold, value};
 use tp_search_compiled::{Compare, NONE, Op, Rule, Write, WriteTo};
 
 /// The most uses of one action for one number.

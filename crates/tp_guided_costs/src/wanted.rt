@@ -2,8 +2,8 @@
 
 use crate::chosen::Chosen;
 use crate::costs::{CAP, Costs, DEAD};
+use crate::relaxed::Relaxed;
 use std::alloc::{AllocError, Global};
-use tp_guided_relaxed::Relaxed;
 use tp_search_compiled::{Buckets, NONE, Running, Task};
 
 /// Who wants a proposition: the cheapest operator that does, and the cheapest that is no end.

@@ -1,11 +1,12 @@
 //! The durations that a walk tries.
 
 use crate::pending::Item;
+use crate::space::Space;
 use crate::starting::is_pending_on;
+use crate::store::Choice;
 use crate::walk::Walk;
 use std::alloc::AllocError;
 use tp_guided_costs::Heuristic;
-use tp_guided_space::{Choice, Space};
 use tp_search_compiled::{NONE, Task};
 
 /// Which durations a walk tries of a step that may last longer or less long.

@@ -2,10 +2,11 @@
 
 use crate::due::{Due, group_end, list_dues};
 use crate::pending::{Item, Pending, holds, is_true, lacks};
+use crate::space::Space;
+use crate::store::Choice;
 use crate::walk::Walk;
 use std::alloc::AllocError;
 use tp_guided_costs::Heuristic;
-use tp_guided_space::{Choice, Space};
 use tp_search_compiled::{Event, NONE, Task};
 
 // Whether an item is still to do, and can start at this tick.

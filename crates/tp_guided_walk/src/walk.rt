@@ -3,9 +3,9 @@
 use crate::due::{Due, group_end, list_dues};
 use crate::lengths::Lengths;
 use crate::pending::{Pending, holds, is_true, lacks};
+use crate::space::{Child, Space};
 use std::alloc::{AllocError, Global};
 use tp_guided_costs::Heuristic;
-use tp_guided_space::{Child, Space};
 use tp_search_compiled::{Event, Marks, Task};
 
 /// What is ahead in the states in which the running steps run out.

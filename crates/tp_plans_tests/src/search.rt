@@ -7,8 +7,7 @@ use std::test::Fail;
 use tp_happen::Step;
 use tp_search::{Found, search};
 use tp_task::Task;
-use tp_testkit::{MATCH, MATCHES, TOGGLE, TOGGLED};
-use tp_testkit_tasks::{World, kept_of, task_of};
+use tp_testkit::{MATCH, MATCHES, TOGGLE, TOGGLED, World, kept_of, task_of};
 use tp_text::Scale;
 
 const HORIZON: u32 = 1_000_000;

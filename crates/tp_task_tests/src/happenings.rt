@@ -11,8 +11,7 @@ use tp_happen::{
     ApplyFault, Event, EventRef, Outcome, Part, State, Why, apply, event, holds, interferes, value,
 };
 use tp_task::{ActionId, AtomId, Expr, FluentId, Task};
-use tp_testkit::TANK;
-use tp_testkit_tasks::{CHARGES, FUSES, SWITCHES, TANKS, World, task_of};
+use tp_testkit::{CHARGES, FUSES, SWITCHES, TANK, TANKS, World, task_of};
 use tp_text::Scale;
 
 /// An event of an action without objects: its name, which event it is, and the ticks of its step.

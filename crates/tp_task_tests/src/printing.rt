@@ -6,7 +6,7 @@ use std::test::Fail;
 use tp_device::{Failed, ToWrite};
 use tp_happen::{Plan, print_plan, read_plan};
 use tp_task::Task;
-use tp_testkit_tasks::{CHARGES, World, task_of};
+use tp_testkit::{CHARGES, World, task_of};
 use tp_text::Scale;
 
 const PLAN: &str = "0.001:(CHARGE) [4.0];\n\n2 : ( rest ) [0.05]";

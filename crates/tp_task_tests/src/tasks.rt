@@ -8,8 +8,7 @@ use tp_ground_joins::ground_joined;
 use tp_ground_named::begin;
 use tp_syntax::{Domain, Problem, read_domain, read_problem};
 use tp_task::{ActionId, AtomId, GroundFault, Task, TooManyKind};
-use tp_testkit::{MATCH, MATCHES, TANK, TOGGLE};
-use tp_testkit_tasks::{FUSES, task_of};
+use tp_testkit::{FUSES, MATCH, MATCHES, TANK, TOGGLE, task_of};
 use tp_text::Scale;
 
 /// Which actions a task has.

@@ -6,7 +6,7 @@ use std::test::Fail;
 use tp_happen::read_plan;
 use tp_search::{Found, search};
 use tp_task::Task;
-use tp_testkit_tasks::{CHARGES, FUSES, SWITCHES, TANKS, World};
+use tp_testkit::{CHARGES, FUSES, SWITCHES, TANKS, World};
 use tp_validate::{ValidPlan, ValidateFault, Verdict, validate};
 
 /// The valid plan of a text. Where memory is refused to the verdict, it is asked for once more, of

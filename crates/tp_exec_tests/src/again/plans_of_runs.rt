@@ -16,7 +16,7 @@ use tp_exec_machine::{Command, Executive, perform_all};
 use tp_happen::{Plan, Step};
 use tp_repair::RepairNet;
 use tp_task::Task;
-use tp_testkit_tasks::{CHARGES, FUSES, SWITCHES, TANKS, World};
+use tp_testkit::{CHARGES, FUSES, SWITCHES, TANKS, World};
 use tp_validate::ValidPlan;
 
 /// An executive over the network of a plan, under the greatest limits.

@@ -8,7 +8,7 @@ use std::alloc::Global;
 use std::test::Fail;
 use tp_happen::{EventRef, Outcome, Part, State, apply, event};
 use tp_task::{ActionId, AtomId, FluentId, Task};
-use tp_testkit_tasks::{CHARGES, FUSES, SWITCHES, TANKS, World};
+use tp_testkit::{CHARGES, FUSES, SWITCHES, TANKS, World};
 
 /// Whether the first action and the first atom of a task have these texts.
 fn tells(task: &Task, action: &str, atom: &str) -> Result<bool, Fail> {

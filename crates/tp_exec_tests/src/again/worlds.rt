@@ -6,7 +6,7 @@ use tp_bounds::Limits;
 use tp_ground::{ground, ground_reached};
 use tp_syntax::{Domain, Problem, SyntaxFault, read_domain, read_problem};
 use tp_task::{GroundFault, Task};
-use tp_testkit_tasks::World;
+use tp_testkit::World;
 use tp_text::Scale;
 
 fn domain_of(alloc: Global, text: &str) -> Result<Domain, SyntaxFault> {

@@ -3,10 +3,9 @@
 use std::alloc::{AllocError, Global};
 use std::process::Abort;
 use std::test::Fail;
-use tp_guided_costs::{DEAD, Heuristic};
-use tp_guided_relaxed::build;
+use tp_guided_costs::{DEAD, Heuristic, build};
 use tp_search_compiled::{State, Task};
-use tp_testkit_tasks::{World, kept_of};
+use tp_testkit::{World, kept_of};
 use tp_text::Scale;
 
 /// A lock, lamps that can be switched on while it is closed, and some numbers.

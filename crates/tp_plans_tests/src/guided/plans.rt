@@ -4,8 +4,7 @@ use crate::guided::kinds::task_for;
 use std::alloc::{AllocError, Global};
 use std::process::Abort;
 use std::test::Fail;
-use tp_guided_costs::Heuristic;
-use tp_guided_relaxed::{Relaxed, build};
+use tp_guided_costs::{Heuristic, Relaxed, build};
 use tp_search_compiled::{Running, State, Task};
 
 // Of the actions, in their order: open, switch l1, switch l2, fill, drain, set, pay, burn l1, burn

@@ -4,7 +4,7 @@ use std::alloc::{AllocError, Global};
 use std::test::Fail;
 use tp_guided::{Guided, Proposal};
 use tp_task::Task;
-use tp_testkit_tasks::{CHARGES, FUSES, LINES, SWITCHES, TANKS, World, kept_of};
+use tp_testkit::{CHARGES, FUSES, LINES, SWITCHES, TANKS, World, kept_of};
 use tp_text::Scale;
 
 /// A lamp that burns for 2 to 20 ticks, and a repair of 10 for which it has to.

@@ -5,8 +5,8 @@ use Rattle.std.specs.Option.{ok_or}
 use Rattle.std.proofs.lemmas.Result.{IfOk-weaker}
 use Rattle.clap.specs.Words.{App, FailsBy, fault_of, is_simple, is_simple_and_free, subcommand_of}
 use Rattle.clap.specs.declared.parser.matches.ArgMatches.{ArgMatches}
-use Rattle.tp_cli_args.specs.declared.arguments.NoRequest.TheVariants.{Memory, Words}
-use Rattle.tp_cli_args.specs.Requests.{AsksForNothing, AsksNothing, HasOwnFiles, NamesBare}
+use Rattle.tp_cli_args.specs.declared.arguments.NoRequest.TheVariants.{Words}
+use Rattle.tp_cli_args.specs.Requests.{AsksForNothing, HasOwnFiles, NamesBare}
 use Rattle.tp_cli_args.proofs.ArgumentLemmas.{asks_by, asks_help, only_memory, simple, simple_and_free}
 use Rattle.tp_cli_args.proofs.RefusalLemmas.{error_refused, free_nothing, help_own, none_err, none_weaker, some_ok}
 use Rattle.tp_cli_args.proofs.arguments.read_words.Goals as goal

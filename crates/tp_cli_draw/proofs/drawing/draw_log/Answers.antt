@@ -1,7 +1,7 @@
 use Rattle.std.proofs.Common.{subst}
 use Rattle.std.proofs.lemmas.Result.{IfErr-weaker, IfOk-weaker}
 use Rattle.tp_bounds.specs.RunLimits.{RunLimits}
-use Rattle.tp_deorder.specs.Answers.{IsPlanNetOf, OnTooMany, PassesLimits}
+use Rattle.tp_deorder.specs.Answers.{IsPlanNetOf}
 use Rattle.tp_cli_draw.proofs.DrawLemmas.{steps_drawn, steps_hindered}
 use Rattle.tp_cli_draw.proofs.drawing.draw_log.Goals as goal
 

@@ -1,5 +1,4 @@
 use Rattle.std.proofs.Common.{subst, Option, List, ℕ, sym}
-use Rattle.std.specs.Prelude.{IfErr, IfOk}
 use Rattle.std.proofs.lemmas.Result.{IfErr-weaker, IfOk-weaker}
 use Rattle.tp_cli_inputs.proofs.NamedLemmas.{unjudged}
 use Rattle.tp_cli_draw.specs.Pictures.{DrawsJudged, HindersJudged}

@@ -1,4 +1,0 @@
-pub mod ResumeLemmas
-pub mod BareLemmas
-pub mod Came
-pub mod RunLemmas
