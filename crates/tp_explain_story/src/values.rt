@@ -43,10 +43,9 @@ pub(crate) fn put_wanted<'a>(
     if let Some((a, b)) = story.compared(leaf, facts)? {
         puts!(page; ", which is ", a, " ", leaf.head(), " ", b);
     }
-    let mut before = ", with ";
-    for binding in leaf.bindings.iter().skip(own) {
-        page.put_all(&[before, binding.variable, " = ", binding.object]);
-        before = ", ";
+    for (place, binding) in leaf.bindings.iter().skip(own).enumerate() {
+        let before = if place == 0 { ", with " } else { ", " };
+        puts!(page; before, binding.variable, " = ", binding.object);
     }
     page.put("\n");
     Ok(())
