@@ -1,6 +1,8 @@
 //! Calls of the program over files, readers and writers in memory: what a call writes and its exit
 //! status, row by row.
 
+ghost use Rattle.std.specs.Prelude.{◌≡◌, None};
+
 mod rows;
 
 use crate::memory::{CountedLogs, Sheet};
