@@ -4,9 +4,9 @@ use crate::steps::{StepLine, Word};
 use std::alloc::AllocError;
 use tp_explain_syntax::{
     Declared, Kind, Types, World, declarations_of, find_named, first_misfit, is_action,
-    parameters_in, put_misfit, put_no_name, put_takes, typed_items,
+    parameters_in, put_no_name, put_takes, typed_items,
 };
-use tp_explain_text::{Page, Source, Tree, put_note};
+use tp_explain_text::{At, Page, Source, Tree, error_at, put};
 
 /// The members of the section that declares an action of a name.
 pub fn action_named<'t>(world: &World<'t>, name: &str) -> Option<&'t [Tree]> {
@@ -29,8 +29,7 @@ pub fn is_durative(action: &[Tree]) -> bool {
 /// Puts where an action is declared.
 fn put_action_here(page: &mut Page, world: &World<'_>, action: &[Tree]) {
     if let [_, name, ..] = action {
-        let texts = ["`", name.word(), "` is declared here"];
-        put_note(page, world.domain.source, name.place(), &texts);
+        put!(page; "{}note: `{name}` is declared here\n", At(world.domain.source, name.place()));
     }
 }
 
@@ -91,12 +90,12 @@ fn put_arguments<'t>(
     }
     let types = Types::new(alloc, world)?;
     let found = first_misfit(&types, arguments.as_slice(), parameters.as_slice());
-    if let Some(misfit) = found {
-        let at = match words.get(misfit.number.saturating_sub(1)) {
-            Some(word) => word.at,
-            None => 0,
-        };
-        put_misfit(page, plan, at, name.text, &misfit);
+    if let Some((number, argument, parameter)) = found {
+        let at = words
+            .get(number.saturating_sub(1))
+            .map_or(0, |word| word.at);
+        error_at!(page, plan, at;
+            "argument {number} of `{}` is of type {argument}, expected {parameter}", name.text);
         put_action_here(page, world, action);
     }
     Ok(())

@@ -1,14 +1,14 @@
 //! Words that are those of no command, where nothing else is said of them.
 
 use crate::calls::Call;
-use tp_explain_text::{Page, puts};
+use tp_explain_text::{Page, put};
 
 /// Puts that a scale is none, if it is.
 fn put_scale(page: &mut Page, scale: &str) -> bool {
     if matches!(scale.as_bytes(), b"" | b"1" | b"10" | b"100" | b"1000") {
         return false;
     }
-    puts!(page; "error: `--scale ", scale, "` is none of 1, 10, 100 and 1000\n");
+    put!(page; "error: `--scale {scale}` is none of 1, 10, 100 and 1000\n");
     true
 }
 
@@ -18,8 +18,8 @@ fn put_audit(page: &mut Page, call: &Call<'_>) -> bool {
     if call.command != "audit" || others == 0 || others > 2 {
         return false;
     }
-    puts!(page; "error: `audit` takes the domain, problem and plan of a run, or none of them, not ",
-        others, "\n");
+    page.put("error: `audit` takes the domain, problem and plan of a run, or none of them, not ");
+    put!(page; "{others}\n");
     true
 }
 
@@ -41,7 +41,7 @@ fn put_journal(page: &mut Page, journal: &str, resumes: bool) {
     if journal == "-" {
         page.put("error: the journal cannot be `-`\n");
     } else if !journal.is_empty() {
-        puts!(page; "error: the journal `", journal, "` is another file of the call, too\n");
+        put!(page; "error: the journal `{journal}` is another file of the call, too\n");
     } else if resumes {
         page.put("error: `--resume` needs `--journal`, the file of the journal that goes on\n");
     }

@@ -3,8 +3,9 @@
 use crate::actions::{action_named, is_durative};
 use crate::steps::{Word, next_piece, read_step, text_of};
 use std::alloc::{AllocError, Global};
+use std::fmt;
 use tp_explain_syntax::World;
-use tp_explain_text::{Page, puts};
+use tp_explain_text::Lower;
 
 /// An event of a plan: its number, what it is of its step, the number of that, and its words.
 #[derive(Drop)]
@@ -15,16 +16,24 @@ pub struct Event<'p> {
     words: Vec<Word<'p>>,
 }
 
-/// Puts an event, as `event 4, the start of step 2 (fire jug)`.
-pub fn put_event(page: &mut Page, event: &Event<'_>) {
-    puts!(page; "event ", event.number, ", ", event.part, "step ", event.step, " (");
-    let mut before = "";
-    for word in &event.words {
-        page.put(before);
-        page.put_lower(word.text);
-        before = " ";
+/// As `event 4, the start of step 2 (fire jug)`.
+impl fmt::Display for Event<'_> {
+    fn fmt<W: fmt::Write>(&self, f: &mut fmt::Formatter<W>) -> fmt::Result {
+        write!(
+            f,
+            "event {}, {}step {} (",
+            self.number, self.part, self.step
+        )?;
+        for (number, word) in self.words.iter().enumerate() {
+            write!(
+                f,
+                "{}{}",
+                if number == 0 { "" } else { " " },
+                Lower(word.text)
+            )?;
+        }
+        write!(f, ")")
     }
-    page.put(")");
 }
 
 /// The events of a plan that were counted, and the one that was wanted.

@@ -11,7 +11,7 @@ use crate::worlds::put_with_world;
 use std::alloc::AllocError;
 use tp_cli_files::Files;
 use tp_explain_syntax::{put_no_utf8, put_text_too_long};
-use tp_explain_text::{Page, Source, puts};
+use tp_explain_text::{Page, Source, put};
 
 /// What a number that passes the greatest one, or what is too large, means: by the part and the
 /// word of the line, what is wrong with a file, and what helps.
@@ -59,7 +59,7 @@ fn put_limit(page: &mut Page, line: &Line<'_>) {
             b"split" => line.call.owners,
             _ => line.call.plan,
         };
-        puts!(page; name, ": error: ", what, "\nhelp: ", help, "\n");
+        put!(page; "{name}: error: {what}\nhelp: {help}\n");
     }
 }
 
@@ -67,7 +67,7 @@ fn put_limit(page: &mut Page, line: &Line<'_>) {
 fn put_file<N: Files>(page: &mut Page, files: &mut N, line: &Line<'_>) -> Result<(), AllocError> {
     let name = line.rest;
     match line.word.as_bytes() {
-        b"read" => page.put_all(&[name, ": error: the file cannot be opened or read\n"]),
+        b"read" => put!(page; "{name}: error: the file cannot be opened or read\n"),
         b"utf8" => {
             let bytes = bytes_of(page.alloc(), files, name)?;
             let text = bytes.as_slice();
@@ -86,13 +86,12 @@ fn put_file<N: Files>(page: &mut Page, files: &mut N, line: &Line<'_>) -> Result
 fn put_script<N: Files>(page: &mut Page, files: &mut N, line: &Line<'_>) -> Result<(), AllocError> {
     match line.word.as_bytes() {
         b"too-long" => {
-            puts!(page; "stdin: error: the input has more than 4294967296 bytes\n",
-                "help: begin a new run\n");
+            page.put("stdin: error: the input has more than 4294967296 bytes\n");
+            page.put("help: begin a new run\n");
         }
         b"log" => {
-            let name = line.call.journal;
-            puts!(page; name, ": error: the journal cannot be made or written\n",
-                "help: see that its folder is there and may be written\n");
+            put!(page; "{}: error: the journal cannot be made or written\n", line.call.journal);
+            page.put("help: see that its folder is there and may be written\n");
         }
         b"head" if line.call.command == "run" => return put_with_world(page, files, line),
         b"head" => return put_head(page, line.input),

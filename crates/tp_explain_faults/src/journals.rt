@@ -1,9 +1,10 @@
 //! Lines that are no journal's.
 
 use std::alloc::{AllocError, Global};
+use std::fmt;
 use tp_cli_files::Files;
 use tp_device::Source as Reader;
-use tp_explain_text::{Page, put_mark_of_line, puts};
+use tp_explain_text::{Page, put, put_mark_of_line};
 use tp_script::{next_word, read_number};
 
 /// The most bytes of a line of a journal.
@@ -154,14 +155,18 @@ fn wanted_form(lines: &[KeptLine], number: u64) -> &'static str {
     }
 }
 
-/// Puts at most 60 characters of a line between backticks; those past ASCII are `?`.
-fn put_ascii(page: &mut Page, line: &[u8]) {
-    page.put("`");
-    for byte in line.iter().take(60) {
-        let is_shown = b' ' <= *byte && *byte <= b'~';
-        page.put_bytes(&[if is_shown { *byte } else { b'?' }]);
+/// At most 60 characters of a line; those past ASCII are `?`.
+#[derive(Clone, Copy)]
+struct Ascii<'l>(&'l [u8]);
+
+impl fmt::Display for Ascii<'_> {
+    fn fmt<W: fmt::Write>(&self, f: &mut fmt::Formatter<W>) -> fmt::Result {
+        for byte in self.0.iter().take(60) {
+            let is_shown = b' ' <= *byte && *byte <= b'~';
+            write!(f, "{}", if is_shown { char::from(*byte) } else { '?' })?;
+        }
+        write!(f, "{}", if self.0.len() > 60 { "..." } else { "" })
     }
-    page.put(if line.len() > 60 { "...`\n" } else { "`\n" });
 }
 
 /// A word up to a parenthesis, a bracket or a semicolon in it, unless it begins with one.
@@ -174,16 +179,15 @@ fn word_of(word: &[u8]) -> &[u8] {
 /// Puts what was wanted on a line, and what was found: its first word, or all of it where that is a
 /// sign of what is wanted.
 fn put_found(page: &mut Page, wanted: &str, line: Option<&KeptLine>) {
-    page.put_all(&["expected ", wanted, ", found "]);
     let Some(line) = line else {
-        page.put("the end of the file\n");
+        put!(page; "expected {wanted}, found the end of the file\n");
         return;
     };
     let bytes = line.bytes.as_slice();
     match next_word(bytes).0 {
-        [] => page.put("an empty line\n"),
-        [b'>' | b'<'] => put_ascii(page, bytes),
-        word => put_ascii(page, word_of(word)),
+        [] => put!(page; "expected {wanted}, found an empty line\n"),
+        [b'>' | b'<'] => put!(page; "expected {wanted}, found `{}`\n", Ascii(bytes)),
+        word => put!(page; "expected {wanted}, found `{}`\n", Ascii(word_of(word))),
     }
 }
 
@@ -194,15 +198,14 @@ fn put_command(page: &mut Page, lines: &[KeptLine], number: u64) -> bool {
     let [b'>', b' ', command @ ..] = line else {
         return false;
     };
-    puts!(page; "note: line ", before, " is the command ");
-    put_ascii(page, command);
+    put!(page; "note: line {before} is the command `{}`\n", Ascii(command));
     true
 }
 
 /// Puts what is wrong with a line of a journal: it is too long, does not end, or is none.
 pub fn put_journal_line(page: &mut Page, name: &str, lines: &[KeptLine], number: u64) {
     let line = kept_line(lines, number);
-    puts!(page; name, ":", number, ":1: error: ");
+    put!(page; "{name}:{number}:1: error: ");
     let is_long = line.map_or(false, |line| line.is_long);
     let is_open = line.map_or(false, |line| !line.is_ended);
     if is_long {
@@ -219,6 +222,6 @@ pub fn put_journal_line(page: &mut Page, name: &str, lines: &[KeptLine], number:
     if is_missing || (is_open && !is_long) {
         page.put("help: after a crash, cut the journal behind its last whole pair\n");
     } else {
-        page.put_all(&["help: see that ", name, " is a journal\n"]);
+        put!(page; "help: see that {name} is a journal\n");
     }
 }

@@ -2,7 +2,7 @@
 
 use crate::steps::{Piece, line_of, next_piece, next_place};
 use std::str::from_utf8;
-use tp_explain_text::{Page, Source, begin_error, end_headline, put_error, puts, without_return};
+use tp_explain_text::{Page, Source, error_at, put, without_return};
 use tp_syntax_ast::is_name;
 use tp_text::has_time_form;
 
@@ -119,48 +119,36 @@ fn text_in(bytes: &[u8]) -> &str {
     from_utf8(bytes).unwrap_or("?")
 }
 
-/// Puts the list that begins at a place of a line, by its head.
-fn put_brief(page: &mut Page, line: &[u8], at: usize) {
-    page.put("(");
-    let head = next_piece(line, at.saturating_add(1));
-    let behind = match head {
-        Some(head) if head.is_word => {
-            page.put(text_in(head.text));
-            next_piece(line, head.end())
-        }
-        head => head,
-    };
-    page.put(match (behind, head) {
-        (Some(next), _) if next.is_sign(b')') => ")",
-        (_, Some(head)) if head.is_word => " ..)",
-        _ => "..)",
-    });
+/// The list that begins at a place of a line: its head, and what stands behind that.
+fn brief(line: &[u8], at: usize) -> (&str, &'static str) {
+    match next_piece(line, at.saturating_add(1)) {
+        Some(head) if head.is_word => match next_piece(line, head.end()) {
+            Some(next) if next.is_sign(b')') => (text_in(head.text), ")"),
+            _ => (text_in(head.text), " ..)"),
+        },
+        Some(head) if head.is_sign(b')') => ("", ")"),
+        _ => ("", "..)"),
+    }
 }
 
 /// Puts what was wanted at a place, and what stands there.
 fn put_expected(page: &mut Page, plan: Source<'_>, at: usize, line: &[u8], misfit: &Misfit<'_>) {
-    begin_error(page, plan, at);
-    page.put("expected ");
-    put_found(page, line, misfit);
-    end_headline(page, plan, at);
-}
-
-/// Puts the form that was wanted, and what stands there.
-fn put_found(page: &mut Page, line: &[u8], misfit: &Misfit<'_>) {
     let Some(piece) = misfit.piece else {
-        puts!(page; misfit.wanted.words(false), ", found the end of the line");
+        let wanted = misfit.wanted.words(false);
+        error_at!(page, plan, at; "expected {wanted}, found the end of the line");
         return;
     };
-    puts!(page; misfit.wanted.words(piece.is_word), ", found `");
+    let wanted = misfit.wanted.words(piece.is_word);
     if piece.is_sign(b'(') {
-        put_brief(page, line, piece.at);
+        let (head, behind) = brief(line, piece.at);
+        error_at!(page, plan, at; "expected {wanted}, found `({head}{behind}`");
     } else if piece.is_word {
         let word = shown(line.get(piece.at..).unwrap_or(&[]));
-        page.put(word.strip_suffix(':').unwrap_or(word));
+        let word = word.strip_suffix(':').unwrap_or(word);
+        error_at!(page, plan, at; "expected {wanted}, found `{word}`");
     } else {
-        page.put(text_in(piece.text));
+        error_at!(page, plan, at; "expected {wanted}, found `{}`", text_in(piece.text));
     }
-    page.put("`");
 }
 
 /// Puts what can be written instead, where there is no time.
@@ -170,9 +158,8 @@ fn put_time_help(page: &mut Page, line: &[u8], piece: &Piece<'_>) {
         [] => false,
     };
     if piece.is_sign(b'(') {
-        page.put("help: write a time before it, as in `0: ");
-        put_brief(page, line, piece.at);
-        page.put("`\n");
+        let (head, behind) = brief(line, piece.at);
+        put!(page; "help: write a time before it, as in `0: ({head}{behind}`\n");
     } else if piece.is_word && !begins_number {
         page.put("help: begin a comment with `;`\n");
     }
@@ -204,7 +191,7 @@ pub fn put_too_many_steps(page: &mut Page, plan: Source<'_>) {
             count = count.saturating_add(1);
             if count > MOST_STEPS {
                 let at = begin.saturating_add(piece.at);
-                put_error(page, plan, at, &["the plan has more than 512 steps"]);
+                error_at!(page, plan, at; "the plan has more than 512 steps");
                 return;
             }
         }

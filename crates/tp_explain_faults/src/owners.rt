@@ -1,8 +1,8 @@
 //! The agents of events.
 
-use crate::events::{Event, put_event};
+use crate::events::Event;
 use std::str::from_utf8;
-use tp_explain_text::{Count, Page, Source, put_error, put_number_error, puts};
+use tp_explain_text::{Count, Page, Source, error_at, put};
 
 /// The greatest number of an agent.
 const GREATEST: u32 = 1023;
@@ -61,27 +61,22 @@ fn number_of(word: &[u8]) -> Option<u32> {
 }
 
 fn put_counts(page: &mut Page, words: u64, events: u64) {
-    puts!(page; "note: the file has ", Count(words, "number", "numbers"), ", the network ",
-        Count(events, "event", "events"), "\n");
+    let words = Count(words, "number", "numbers");
+    put!(page; "note: the file has {words}, the network {}\n", Count(events, "event", "events"));
 }
 
 /// Puts what is wrong with the number of an agent.
 fn put_number(page: &mut Page, source: Source<'_>, word: &Word<'_>, event: Option<&Event<'_>>) {
     match number_of(word.text) {
         Some(number) if number > GREATEST => {
-            let behind = " is past 1023, the greatest";
-            put_number_error(page, source, word.at, "agent ", u64::from(number), behind);
+            error_at!(page, source, word.at; "agent {number} is past 1023, the greatest");
         }
-        _ => {
-            let text = from_utf8(word.text).unwrap_or("?");
-            let before = "expected a number of one to four digits, found `";
-            put_error(page, source, word.at, &[before, text, "`"]);
-        }
+        _ => error_at!(page, source, word.at;
+            "expected a number of one to four digits, found `{}`",
+            from_utf8(word.text).unwrap_or("?")),
     }
     if let Some(event) = event {
-        page.put("note: it is for ");
-        put_event(page, event);
-        page.put("\n");
+        put!(page; "note: it is for {event}\n");
     }
 }
 
@@ -97,13 +92,11 @@ pub fn put_owner(
     let (word, words) = word_at(source.text, number);
     match (word, event) {
         (None, Some(event)) => {
-            page.put_all(&[source.name, ": error: "]);
-            put_event(page, event);
-            page.put(", has no agent\n");
+            put!(page; "{}: error: {event}, has no agent\n", source.name);
             put_counts(page, words, events);
         }
         (Some(word), None) if number_of(word.text).is_some() => {
-            put_number_error(page, source, word.at, "there is no event ", number, "");
+            error_at!(page, source, word.at; "there is no event {number}");
             put_counts(page, words, events);
         }
         (Some(word), event) => put_number(page, source, &word, event),

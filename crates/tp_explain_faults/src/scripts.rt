@@ -2,7 +2,7 @@
 
 use std::alloc::AllocError;
 use std::str::from_utf8;
-use tp_explain_text::{Page, Source, error_at, put_error, put_number_error, puts};
+use tp_explain_text::{Page, Source, error_at, put};
 use tp_script::{next_word, read_number};
 
 /// The most bytes of a line, events, ticks of the horizon, and ticks of a lag.
@@ -64,12 +64,13 @@ fn put_note(page: &mut Page) {
 
 /// Puts that the head is not of its form: what was found where it goes wrong.
 fn put_no_head(page: &mut Page, source: Source<'_>, at: usize, found: Option<&str>) {
-    let (before, text, behind) = match found {
-        Some(word) => ("`", word, "`"),
-        None if source.text.is_empty() => ("the end of the ", "input", ""),
-        None => ("the end of the ", "line", ""),
-    };
-    error_at!(page, source, at; "expected `network N H`, found ", before, text, behind);
+    match found {
+        Some(word) => error_at!(page, source, at; "expected `network N H`, found `{word}`"),
+        None if source.text.is_empty() => {
+            error_at!(page, source, at; "expected `network N H`, found the end of the input");
+        }
+        None => error_at!(page, source, at; "expected `network N H`, found the end of the line"),
+    }
     put_note(page);
 }
 
@@ -101,11 +102,10 @@ fn put_too_great(page: &mut Page, source: Source<'_>, words: &Words<'_>) -> bool
     let late = number_of(horizon).unwrap_or(0);
     if many > MOST_EVENTS {
         let at = events.map_or(words.end, |word| word.at);
-        put_number_error(page, source, at, "", many, " events are more than 1024");
+        error_at!(page, source, at; "{many} events are more than 1024");
     } else if late > GREATEST_HORIZON {
         let at = horizon.map_or(words.end, |word| word.at);
-        let behind = " is past 1000000000, the greatest horizon";
-        put_number_error(page, source, at, "", late, behind);
+        error_at!(page, source, at; "{late} is past 1000000000, the greatest horizon");
     }
     many > MOST_EVENTS || late > GREATEST_HORIZON
 }
@@ -128,7 +128,7 @@ pub fn put_head(page: &mut Page, input: &[u8]) -> Result<(), AllocError> {
     };
     let (line, behind) = first_line(input);
     if line.len() > LONGEST {
-        put_error(page, source, 0, &["the line has more than 256 bytes"]);
+        error_at!(page, source, 0; "the line has more than 256 bytes");
         put_note(page);
         return Ok(());
     }
@@ -215,31 +215,22 @@ fn put_lag(
     }
     if ticks > GREATEST_LAG {
         let at = ticks_word.map_or(words.end, |word| word.at);
-        put_number_error(
-            page,
-            source,
-            at,
-            "",
-            ticks,
-            " is past 1000000000, the greatest lag",
-        );
+        error_at!(page, source, at; "{ticks} is past 1000000000, the greatest lag");
         return true;
     }
     let Some(first) = before.iter().find(|first| first.event == event) else {
         return false;
     };
-    error_at!(page, source, at; "event ", event, " has the lag ", first.ticks, " already");
+    error_at!(page, source, at; "event {event} has the lag {} already", first.ticks);
     true
 }
 
 /// Puts that there is no event of a number.
 fn put_no_event(page: &mut Page, source: Source<'_>, at: usize, event: u64, events: u64) {
-    put_number_error(page, source, at, "there is no event ", event, "");
+    error_at!(page, source, at; "there is no event {event}");
     match events {
         0 => page.put("note: there are no events\n"),
         1 => page.put("note: the only event is 0\n"),
-        _ => {
-            puts!(page; "note: the events are 0 to ", events.saturating_sub(1), "\n");
-        }
+        _ => put!(page; "note: the events are 0 to {}\n", events.saturating_sub(1)),
     }
 }

@@ -5,7 +5,7 @@ use tp_explain_syntax::{
     Declared, Kind, Types, World, declarations_of, fits, is_action, parameters_in, section_of,
     typed_items,
 };
-use tp_explain_text::{Page, Source, Text, Tree, error_at, put_error, puts};
+use tp_explain_text::{Page, Source, Text, Tree, error_at, put};
 use tp_text::read_whole;
 
 /// Objects that were declared together, as one of them is, and how many they are.
@@ -127,15 +127,13 @@ fn most_of<'t>(
 
 /// Puts what there are too many of.
 fn put_most(page: &mut Page, source: Source<'_>, most: &Counted<'_>, what: &str) {
-    error_at!(page, source, most.at; "the task has more than 65535 ", what);
-    puts!(page; "note: `", most.name, "` alone may have ", product(most.counts.as_slice()));
-    let mut before = " (";
-    for count in &most.counts {
-        puts!(page; before, *count);
-        before = " x ";
+    error_at!(page, source, most.at; "the task has more than 65535 {what}");
+    put!(page; "note: `{}` alone may have {}", most.name, product(most.counts.as_slice()));
+    for (number, count) in most.counts.iter().enumerate() {
+        put!(page; "{}{count}", if number == 0 { " (" } else { " x " });
     }
-    puts!(page; if most.counts.is_empty() { "\n" } else { ")\n" },
-        "help: fewer parameters, or narrower types\n");
+    page.put(if most.counts.is_empty() { "\n" } else { ")\n" });
+    page.put("help: fewer parameters, or narrower types\n");
 }
 
 /// The most objects of a task.
@@ -216,8 +214,8 @@ pub fn put_range(page: &mut Page, world: &World<'_>) {
             return;
         };
         if let Some(word) = first_in(&text) {
-            let behind = " is past 1000000000000000, the greatest number";
-            put_error(page, text.source, word.place(), &[word.word(), behind]);
+            error_at!(page, text.source, word.place();
+                "{word} is past 1000000000000000, the greatest number");
             page.put("help: choose a greater unit\n");
             return;
         }

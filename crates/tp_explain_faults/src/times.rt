@@ -3,9 +3,7 @@
 use crate::actions::{action_named, is_durative};
 use crate::steps::{StepLine, Word};
 use tp_explain_syntax::World;
-use tp_explain_text::{
-    Moment, Page, Source, Units, begin_error, end_headline, error_at, put_error, puts,
-};
+use tp_explain_text::{Moment, Page, Source, Units, error_at, put};
 use tp_text::{Scale, read_ticks};
 
 /// The duration of a step of a durative action. That of another step is not looked at.
@@ -22,8 +20,8 @@ fn duration_of<'l>(world: &World<'_>, step: &StepLine<'l>) -> Option<Word<'l>> {
 /// Puts that a step of a durative action has no duration.
 pub fn put_no_duration(page: &mut Page, plan: Source<'_>, step: &StepLine<'_>) {
     if let Some(name) = step.words.first() {
-        let behind = "` is a durative action, and the step has no duration";
-        put_error(page, plan, name.at, &["`", name.text, behind]);
+        error_at!(page, plan, name.at; "`{}` is a durative action, and the step has no duration",
+            name.text);
         page.put("help: write `[DURATION]` behind it, in units of time\n");
     }
 }
@@ -52,29 +50,18 @@ fn is_too_great(word: &str, scale: Scale) -> bool {
     }
 }
 
-/// The ticks of a unit in digits.
-fn digits(scale: Scale) -> &'static str {
-    match scale {
-        Scale::One => "1",
-        Scale::Ten => "10",
-        Scale::Hundred => "100",
-        Scale::Thousand => "1000",
-    }
-}
-
 /// Puts that a time is no whole number of ticks.
 fn put_no_ticks(page: &mut Page, plan: Source<'_>, word: &Word<'_>, scale: Scale) {
-    let text = word.text;
+    let (text, ticks) = (word.text, scale.ticks());
     if is_too_great(text, scale) {
-        let behind = " is past 4294967295 ticks, the most that a time may have";
-        put_error(page, plan, word.at, &[text, behind]);
+        error_at!(page, plan, word.at;
+            "{text} is past 4294967295 ticks, the most that a time may have");
         return;
     }
-    error_at!(page, plan, word.at;
-        text, " is no whole number of ticks under `--scale ", digits(scale), "`");
+    error_at!(page, plan, word.at; "{text} is no whole number of ticks under `--scale {ticks}`");
     match better_scale(text, scale) {
         Some(Scale::Thousand) => page.put("help: `--scale 1000`\n"),
-        Some(better) => page.put_all(&["help: `--scale ", digits(better), "`, or a greater one\n"]),
+        Some(better) => put!(page; "help: `--scale {}`, or a greater one\n", better.ticks()),
         None => page.put("note: 1000 ticks a unit is the greatest scale\n"),
     }
 }
@@ -115,31 +102,21 @@ pub fn put_horizon(
     let begins = read_ticks(step.time.text, scale).unwrap_or(0);
     let end = u64::from(begins).saturating_add(u64::from(lasts));
     let at = duration.map_or(step.time.at, |word| word.at);
-    put_late(page, plan, at, end, scale, horizon);
-    put_horizon_help(page, end);
-}
-
-/// Puts that a step ends at a tick past the horizon.
-fn put_late(page: &mut Page, plan: Source<'_>, at: usize, end: u64, scale: Scale, horizon: u32) {
     let ticks = scale.ticks();
-    begin_error(page, plan, at);
-    puts!(page; "the step ends at ", Moment(ticks, end), ", past the horizon ", horizon);
+    let moment = Moment(ticks, end);
     if ticks > 1 {
-        puts!(page; " (", Units(ticks, u64::from(horizon)), ")");
+        error_at!(page, plan, at; "the step ends at {moment}, past the horizon {horizon} ({})",
+            Units(ticks, u64::from(horizon)));
+        put!(page; "note: the horizon is in ticks, and a unit has {ticks} of them");
+        put!(page; " under `--scale {ticks}`\n");
+    } else {
+        error_at!(page, plan, at; "the step ends at {moment}, past the horizon {horizon}");
     }
-    end_headline(page, plan, at);
-    if ticks > 1 {
-        let (ticks, of) = (digits(scale), " of them under `--scale ");
-        puts!(page; "note: the horizon is in ticks, and a unit has ", ticks, of, ticks, "`\n");
-    }
-}
-
-/// Puts which horizon a step needs that ends at a tick.
-fn put_horizon_help(page: &mut Page, end: u64) {
-    if end > GREATEST_HORIZON {
+    if end < GREATEST_HORIZON {
+        put!(page; "help: `--horizon {end}`, or a greater one\n");
+    } else if end == GREATEST_HORIZON {
+        put!(page; "help: `--horizon {end}`\n");
+    } else {
         page.put("note: 1000000000 is the greatest horizon\n");
-        return;
     }
-    puts!(page; "help: `--horizon ", end,
-        if end < GREATEST_HORIZON { "`, or a greater one\n" } else { "`\n" });
 }

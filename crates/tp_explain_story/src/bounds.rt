@@ -4,11 +4,28 @@ use crate::causes::Causes;
 use crate::names::{Name, Named, Names, name_of};
 use crate::story::Story;
 use std::alloc::AllocError;
+use std::fmt;
 use tp_bounds::{Bound, Point};
-use tp_explain_text::{Moment, Page, Ticks, puts};
+use tp_explain_text::{Moment, Page, Ticks, put};
 
-/// The step of which two events are the start and the end.
-fn span_of<'n>(names: Names<'n>, start: u16, end: u16) -> Option<Name<'n>> {
+/// A moment that may lie before the origin.
+#[derive(Clone, Copy)]
+struct Signed(u32, i64);
+
+impl fmt::Display for Signed {
+    fn fmt<W: fmt::Write>(&self, f: &mut fmt::Formatter<W>) -> fmt::Result {
+        match u64::try_from(self.1) {
+            Ok(tick) => write!(f, "{}", Moment(self.0, tick)),
+            Err(_) => write!(f, "tick {}", self.1),
+        }
+    }
+}
+
+/// The step of which two points are the start and the end.
+fn span_of<'n>(names: Names<'n>, start: Point, end: Point) -> Option<Name<'n>> {
+    let (Point::Event(start), Point::Event(end)) = (start, end) else {
+        return None;
+    };
     let first = name_of(names, start)?;
     let second = name_of(names, end)?;
     if first.step == second.step && first.moment == "start" && second.moment == "end" {
@@ -18,55 +35,41 @@ fn span_of<'n>(names: Names<'n>, start: u16, end: u16) -> Option<Name<'n>> {
     }
 }
 
-/// Puts at which moment something comes, which may lie before the origin.
-fn put_comes(page: &mut Page, scale: u32, tick: i64, behind: &str) {
-    page.put(" comes at ");
-    match u64::try_from(tick) {
-        Ok(tick) => page.put(Moment(scale, tick)),
-        Err(_) => {
-            puts!(page; "tick ", tick);
-        }
-    }
-    page.put(behind);
-}
+/// What a bound says, under a scale.
+#[derive(Clone, Copy)]
+pub(crate) struct Said<'n>(pub(crate) Names<'n>, pub(crate) u32, pub(crate) Bound);
 
-/// Puts what a bound between two events says.
-fn put_between(page: &mut Page, names: Names<'_>, scale: u32, from: u16, to: u16, w: i64) {
-    let ticks = Ticks(scale, w.unsigned_abs());
-    if let (Some(step), true) = (span_of(names, from, to), w > 0) {
-        puts!(page; step, " lasts at most ", ticks);
-        return;
-    }
-    if let (Some(step), true) = (span_of(names, to, from), w < 0) {
-        puts!(page; step, " lasts at least ", ticks);
-        return;
-    }
-    page.put(Named(names, to));
-    if w == 0 {
-        page.put(" comes no later than ");
-    } else {
-        puts!(page; if w > 0 { " comes at most " } else { " comes at least " }, ticks,
-            if w > 0 { " after " } else { " before " });
-    }
-    page.put(Named(names, from));
-}
-
-/// Puts what a bound says, under a scale.
-pub(crate) fn put_said(page: &mut Page, names: Names<'_>, scale: u32, bound: Bound) {
-    let w = bound.w;
-    match (bound.from, bound.to) {
-        (Point::Event(from), Point::Event(to)) => put_between(page, names, scale, from, to, w),
-        (Point::Event(from), Point::Origin) => {
-            page.put(Named(names, from));
-            put_comes(page, scale, w.saturating_neg(), " or later");
-        }
-        (Point::Origin, Point::Event(to)) => {
-            page.put(Named(names, to));
-            put_comes(page, scale, w, " or earlier");
-        }
-        (Point::Origin, Point::Origin) => {
-            page.put("the origin");
-            put_comes(page, scale, w, " or earlier");
+impl fmt::Display for Said<'_> {
+    fn fmt<W: fmt::Write>(&self, f: &mut fmt::Formatter<W>) -> fmt::Result {
+        let Said(names, scale, bound) = *self;
+        let w = bound.w;
+        let ticks = Ticks(scale, w.unsigned_abs());
+        let (from, to) = match (bound.from, bound.to) {
+            (Point::Event(from), Point::Event(to)) => (Named(names, from), Named(names, to)),
+            (Point::Origin, Point::Event(to)) => {
+                return write!(
+                    f,
+                    "{} comes at {} or earlier",
+                    Named(names, to),
+                    Signed(scale, w)
+                );
+            }
+            (Point::Event(from), Point::Origin) => {
+                let moment = Signed(scale, w.saturating_neg());
+                return write!(f, "{} comes at {moment} or later", Named(names, from));
+            }
+            _ => return write!(f, "the origin comes at {} or earlier", Signed(scale, w)),
+        };
+        if let (Some(step), true) = (span_of(names, bound.from, bound.to), w > 0) {
+            write!(f, "{step} lasts at most {ticks}")
+        } else if let (Some(step), true) = (span_of(names, bound.to, bound.from), w < 0) {
+            write!(f, "{step} lasts at least {ticks}")
+        } else if w > 0 {
+            write!(f, "{to} comes at most {ticks} after {from}")
+        } else if w < 0 {
+            write!(f, "{to} comes at least {ticks} before {from}")
+        } else {
+            write!(f, "{to} comes no later than {from}")
         }
     }
 }
@@ -87,7 +90,7 @@ pub(crate) fn put_own_bound<'a>(
     causes: &Causes<'a>,
     bound: Bound,
 ) -> Result<(), AllocError> {
-    put_said(page, names, story.scale().ticks(), bound);
+    page.put(Said(names, story.scale().ticks(), bound));
     let (Point::Event(from), Point::Event(to)) = (bound.from, bound.to) else {
         return Ok(());
     };
@@ -104,11 +107,6 @@ pub(crate) fn put_own_bound<'a>(
     Ok(())
 }
 
-/// Begins the line of a bound.
-pub(crate) fn put_id(page: &mut Page, id: u64) {
-    puts!(page; "note: b", id, ": ");
-}
-
 /// Puts a line for each bound of a plan's network: its identifier, what it says, and why it is
 /// there.
 pub fn tell_network(
@@ -119,7 +117,7 @@ pub fn tell_network(
 ) -> Result<(), AllocError> {
     let causes = Causes::new(story)?;
     for (id, bound) in bounds.iter().enumerate() {
-        put_id(page, id as u64);
+        put!(page; "note: b{id}: ");
         put_own_bound(page, names, story, &causes, *bound)?;
         page.put("\n");
     }

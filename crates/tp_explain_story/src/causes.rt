@@ -3,12 +3,12 @@
 use crate::events::{Event, Part};
 use crate::interference::find_interference;
 use crate::leaves::Moment;
-use crate::mentions::{Mention, Scope, place_of};
+use crate::mentions::{Mention, Scope};
 use crate::story::Story;
 use crate::texts::Deed;
 use crate::values::WIDEST;
 use std::alloc::AllocError;
-use tp_explain_text::{Cut, Page, puts};
+use tp_explain_text::{Cut, Page, put};
 
 /// A part of an invariant, as text, and what it mentions.
 #[derive(Drop)]
@@ -58,12 +58,12 @@ fn parts_of<'a>(story: &Story<'a>) -> Result<Vec<Part<'a>>, AllocError> {
 
 /// Whether an event writes what a part of an invariant mentions.
 fn writes_into(part: &Part<'_>, kept: &Kept) -> bool {
-    for doing in &part.doings {
-        if place_of(&kept.mentions, doing.name.as_str(), doing.verb.is_numeric()).is_some() {
-            return true;
-        }
-    }
-    false
+    part.doings.iter().any(|doing| {
+        let is_fluent = doing.verb.is_numeric();
+        kept.mentions.iter().any(|mention| {
+            mention.is_fluent == is_fluent && mention.name.as_str() == doing.name.as_str()
+        })
+    })
 }
 
 impl<'a> Causes<'a> {
@@ -78,12 +78,10 @@ impl<'a> Causes<'a> {
 
     /// The first part of a step's invariant into which one of two events writes.
     fn written(&self, step: usize, one: &Part<'a>, other: &Part<'a>) -> Option<&str> {
-        for kept in self.invariants.get(step)? {
-            if writes_into(one, kept) || writes_into(other, kept) {
-                return Some(kept.text.as_str());
-            }
-        }
-        None
+        let invariant = self.invariants.get(step)?;
+        let kept = invariant.iter().find(|kept| writes_into(one, *kept)
+            || writes_into(other, *kept))?;
+        Some(kept.text.as_str())
     }
 
     /// Whether an event comes inside a step in the plan.
@@ -154,7 +152,7 @@ impl<'a> Causes<'a> {
             return Ok(());
         };
         if let Some(found) = find_interference(page.alloc(), one, other)? {
-            page.put_all(&[", as they interfere over ", found.name.as_str()]);
+            put!(page; ", as they interfere over {}", found.name.as_str());
         }
         Ok(())
     }
@@ -162,8 +160,8 @@ impl<'a> Causes<'a> {
     /// Puts which step's invariant asks for the order of two events.
     pub(crate) fn put_wanted(&self, page: &mut Page, story: &Story<'a>, from: usize, to: usize) {
         if let Some((step, text)) = self.wanted(from, to) {
-            puts!(page; ", as step ", step, " ", Deed(story, step), " wants (over all ",
-                Cut(text, WIDEST), ")");
+            let text = Cut(text, WIDEST);
+            put!(page; ", as step {step} {} wants (over all {text})", Deed(story, step));
         }
     }
 }

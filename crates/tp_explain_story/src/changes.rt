@@ -3,9 +3,10 @@
 use crate::events::{Doing, Event, Verb};
 use crate::interference::{Other, find_interference};
 use crate::story::Story;
-use crate::texts::{Deed, Texts, begin_invalid, end_invalid, put_long_note};
+use crate::texts::{Deed, put_invalid};
+use crate::values::WIDEST;
 use std::alloc::AllocError;
-use tp_explain_text::{Page, end_headline, puts};
+use tp_explain_text::{Cut, Page, put};
 
 /// Whether two effects of an event clash.
 fn clashes(one: &Doing<'_>, other: &Doing<'_>) -> bool {
@@ -34,13 +35,8 @@ fn put_effect<'a>(
     doing: &Doing<'a>,
 ) -> Result<(), AllocError> {
     let text = story.text(&doing.leaf)?;
-    put_long_note(
-        page,
-        story.texts(),
-        doing.leaf.place(),
-        words,
-        text.as_str(),
-    );
+    let at = story.texts().in_domain(doing.leaf.place());
+    put!(page; "{at}note: {words} {}\n", Cut(text.as_str(), WIDEST));
     Ok(())
 }
 
@@ -54,11 +50,12 @@ pub(crate) fn tell_clash(
     let Some((one, other)) = clashing(&doings) else {
         return Ok(());
     };
-    let (texts, place) = (story.texts(), story.step_place(event.step));
-    begin_invalid(page, texts, place);
-    puts!(page; event, " changes ", one.name.as_str(), " twice at ", texts.moment(event.tick),
-        ", and not by increases and decreases alone");
-    end_headline(page, texts.plan, place);
+    let texts = story.texts();
+    let (name, tick) = (one.name.as_str(), texts.moment(event.tick));
+    let what = format_args!(
+        "{event} changes {name} twice at {tick}, and not by increases and decreases alone"
+    );
+    put_invalid(page, texts, story.step_place(event.step), what);
     put_effect(page, story, "one effect is", one)?;
     put_effect(page, story, "another is", other)
 }
@@ -97,39 +94,21 @@ pub(crate) fn tell_interference(
     let Some(found) = find_interference(story.alloc(), &a, &b)? else {
         return Ok(());
     };
-    let (texts, place) = (story.texts(), story.step_place(one.step));
-    begin_invalid(page, texts, place);
-    puts!(page; one, " and ", other, " interfere at ");
-    end_invalid(page, texts, place, one.tick);
-    puts!(page; texts.in_plan(story.step_place(other.step)), "note: step ", other.step, " is ",
-        Deed(story, other.step), "\n");
+    let (texts, name) = (story.texts(), found.name.as_str());
+    let tick = texts.moment(one.tick);
+    let what = format_args!("{one} and {other} interfere at {tick}");
+    put_invalid(page, texts, story.step_place(one.step), what);
+    let step = other.step;
+    put!(page; "{}note: step {step} is {}\n", texts.in_plan(story.step_place(step)),
+        Deed(story, step));
     let (doer, reader) = if found.first_does {
         (one, other)
     } else {
         (other, one)
     };
-    let name = found.name.as_str();
-    put_deed(page, texts, found.place, doer, does(found.verb), name);
-    put_deed(
-        page,
-        texts,
-        found.other_place,
-        reader,
-        does_or_wants(found.other),
-        name,
-    );
-    puts!(page; "help: put at least ", texts.ticks(1), " between them\n");
+    put!(page; "{}note: {doer} {} {name}\n", texts.in_domain(found.place), does(found.verb));
+    let deed = does_or_wants(found.other);
+    put!(page; "{}note: {reader} {deed} {name}\n", texts.in_domain(found.other_place));
+    put!(page; "help: put at least {} between them\n", texts.ticks(1));
     Ok(())
-}
-
-/// Puts what an event does to an atom or a fluent.
-fn put_deed(
-    page: &mut Page,
-    texts: &Texts<'_>,
-    place: usize,
-    event: Event,
-    deed: &str,
-    name: &str,
-) {
-    puts!(page; texts.in_domain(place), "note: ", event, " ", deed, " ", name, "\n");
 }

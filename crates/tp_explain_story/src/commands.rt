@@ -1,7 +1,7 @@
 //! Lines that are no command.
 
 use crate::lines::InputLine;
-use tp_explain_text::{Count, Nearest, Page, puts};
+use tp_explain_text::{Count, Nearest, Page, put};
 use tp_script::{next_word, read_event, read_moment, read_number};
 
 /// The words of commands, each with its form and how many words stand behind it.
@@ -76,20 +76,20 @@ fn first_misfit<'l>(command: &str, line: &'l [u8]) -> &'l [u8] {
 
 /// Puts what was wanted in place of a line, and what was found.
 fn put_expected(page: &mut Page, command: &str, form: &str, wanted: u64, line: &[u8]) {
-    page.put_all(&["expected `", form, "`, found "]);
+    put!(page; "expected `{form}`, found ");
     let found = count_words(line);
     if found == wanted {
-        page.put_all(&["`", text_of(first_misfit(command, line)), "`\n"]);
+        put!(page; "`{}`\n", text_of(first_misfit(command, line)));
     } else if found == 0 {
-        page.put_all(&["nothing behind `", command, "`\n"]);
+        put!(page; "nothing behind `{command}`\n");
     } else {
-        puts!(page; Count(found, "word", "words"), " behind `", command, "`\n");
+        put!(page; "{} behind `{command}`\n", Count(found, "word", "words"));
     }
 }
 
 /// Puts that no command has this name, and the nearest that there is.
 fn put_unknown(page: &mut Page, word: &str) {
-    page.put_all(&["no command is named `", word, "`\n"]);
+    put!(page; "no command is named `{word}`\n");
     let mut nearest = Nearest::to(page.alloc(), word);
     let mut found = None;
     for (name, _, _) in &FORMS {
@@ -98,7 +98,7 @@ fn put_unknown(page: &mut Page, word: &str) {
         }
     }
     if let Some(name) = found {
-        page.put_all(&["help: did you mean `", name, "`?\n"]);
+        put!(page; "help: did you mean `{name}`?\n");
     }
 }
 
@@ -106,7 +106,7 @@ fn put_unknown(page: &mut Page, word: &str) {
 pub(crate) fn put_no_command(page: &mut Page, line: &InputLine) {
     let length = line.bytes.len();
     if LONGEST < length {
-        puts!(page; "the line has ", length, " bytes, and at most 256 are read\n");
+        put!(page; "the line has {length} bytes, and at most 256 are read\n");
         return;
     }
     let (word, rest) = next_word(line.words());

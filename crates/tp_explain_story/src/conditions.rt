@@ -4,10 +4,10 @@ use crate::events::Event;
 use crate::facts::Facts;
 use crate::leaves::{Leaf, Moment};
 use crate::story::Story;
-use crate::texts::{begin_invalid, end_invalid};
+use crate::texts::put_invalid;
 use crate::values::{put_values, put_wanted};
 use std::alloc::AllocError;
-use tp_explain_text::{At, Page, end_headline, puts};
+use tp_explain_text::{At, Page, put, put_mark};
 
 /// The most values that are told.
 const MOST: usize = 3;
@@ -51,10 +51,9 @@ pub(crate) fn tell_condition(
     let Some(leaf) = failing(story, leaves, &facts)? else {
         return Ok(());
     };
-    let (texts, place) = (story.texts(), story.step_place(event.step));
-    begin_invalid(page, texts, place);
-    puts!(page; "the condition of ", event, " does not hold at ");
-    end_invalid(page, texts, place, event.tick);
+    let tick = story.texts().moment(event.tick);
+    let text = format_args!("the condition of {event} does not hold at {tick}");
+    put_invalid(page, story.texts(), story.step_place(event.step), text);
     put_part(page, story, &leaf, event, &facts)
 }
 
@@ -70,10 +69,9 @@ pub(crate) fn tell_invariant(
     let Some(leaf) = failing(story, story.conditions(step, moment)?, &facts)? else {
         return Ok(());
     };
-    let (texts, place) = (story.texts(), story.step_place(step));
-    begin_invalid(page, texts, place);
-    puts!(page; "the invariant of step ", step, " does not hold after ");
-    end_invalid(page, texts, place, tick);
+    let after = story.texts().moment(tick);
+    let text = format_args!("the invariant of step {step} does not hold after {after}");
+    put_invalid(page, story.texts(), story.step_place(step), text);
     put_part(page, story, &leaf, Event { step, moment, tick }, &facts)
 }
 
@@ -84,13 +82,13 @@ pub(crate) fn tell_goal(page: &mut Page, story: &Story<'_>, tick: u32) -> Result
         return Ok(());
     };
     let texts = story.texts();
-    puts!(page; At(texts.problem, leaf.place()), "invalid: the goal does not hold ");
+    put!(page; "{}invalid: the goal does not hold ", At(texts.problem, leaf.place()));
     if story.steps().is_empty() {
-        page.put("in the first state");
+        page.put("in the first state\n");
     } else {
-        puts!(page; "at the end, after ", texts.moment(tick));
+        put!(page; "at the end, after {}\n", texts.moment(tick));
     }
-    end_headline(page, texts.problem, leaf.place());
+    put_mark(page, texts.problem, leaf.place());
     put_wanted(page, story, &leaf, Moment::Only, 0, &facts)?;
     put_values(page, story, &leaf, &facts, MOST)
 }

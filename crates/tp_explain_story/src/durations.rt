@@ -4,12 +4,11 @@ use crate::events::Event;
 use crate::facts::Facts;
 use crate::leaves::{Leaf, Moment};
 use crate::mentions::{Mention, Scope};
-use crate::plan::Step;
 use crate::story::Story;
-use crate::texts::{begin_invalid, end_invalid, put_long_note};
-use crate::values::{WIDEST, put_notes, put_values, reads_undefined};
+use crate::texts::put_invalid;
+use crate::values::{WIDEST, is_undefined, put_notes, put_values};
 use std::alloc::AllocError;
-use tp_explain_text::{Cut, Page, Units, end_headline, puts};
+use tp_explain_text::{Cut, Page, Units, put};
 
 /// The most values that are told, and with a help behind them.
 const MOST: usize = 3;
@@ -65,25 +64,17 @@ fn put_constraint<'a>(
 ) -> Result<(), AllocError> {
     let scale = story.scale().ticks();
     let text = story.text(leaf)?;
-    puts!(page; story.texts().in_domain(leaf.place()), "note: it wants ",
-        Cut(text.as_str(), WIDEST), ", which is ", Units(scale, u64::from(ticks)), " ", leaf.head(),
-        " ", value, "\n");
+    put!(page; "{}note: it wants {}, which is {} {} {value}\n",
+        story.texts().in_domain(leaf.place()), Cut(text.as_str(), WIDEST),
+        Units(scale, u64::from(ticks)), leaf.head());
     match only_ticks(scale, leaf, value) {
         Some(wanted) => {
             put_values(page, story, leaf, facts, MOST_BEFORE_HELP)?;
-            puts!(page; "help: write `[", Units(scale, wanted), "]`\n");
+            put!(page; "help: write `[{}]`\n", Units(scale, wanted));
             Ok(())
         }
         None => put_values(page, story, leaf, facts, MOST),
     }
-}
-
-/// Puts how long a step lasts, and what is wrong with that.
-fn put_lasts<'a>(page: &mut Page, story: &Story<'a>, step: usize, it: &Step<'a>, why: &str) {
-    let texts = story.texts();
-    begin_invalid(page, texts, it.duration_place);
-    puts!(page; "step ", step, " lasts ", texts.ticks(u64::from(it.duration)), why);
-    end_headline(page, texts.plan, it.duration_place);
 }
 
 /// Explains that a step may not last as long as it does.
@@ -96,13 +87,15 @@ pub(crate) fn tell_duration(
     let Some(it) = story.steps().get(step) else {
         return Ok(());
     };
+    let (texts, place) = (story.texts(), it.duration_place);
+    let ticks = texts.ticks(u64::from(it.duration));
     if it.duration == 0 {
-        put_lasts(
+        let why = "and a durative step lasts at least 1";
+        put_invalid(
             page,
-            story,
-            step,
-            it,
-            ", and a durative step lasts at least 1",
+            texts,
+            place,
+            format_args!("step {step} lasts {ticks}, {why}"),
         );
         return Ok(());
     }
@@ -110,12 +103,12 @@ pub(crate) fn tell_duration(
     let Some((leaf, value)) = broken(story, step, it.duration, &facts)? else {
         return Ok(());
     };
-    put_lasts(
+    let why = "which its duration constraint does not allow";
+    put_invalid(
         page,
-        story,
-        step,
-        it,
-        ", which its duration constraint does not allow",
+        texts,
+        place,
+        format_args!("step {step} lasts {ticks}, {why}"),
     );
     put_constraint(page, story, it.duration, &leaf, value, &facts)
 }
@@ -129,7 +122,8 @@ fn put_reading<'a>(
     facts: &Facts,
 ) -> Result<(), AllocError> {
     let text = story.text(leaf)?;
-    put_long_note(page, story.texts(), leaf.place(), "it is", text.as_str());
+    let at = story.texts().in_domain(leaf.place());
+    put!(page; "{at}note: it is {}\n", Cut(text.as_str(), WIDEST));
     let _more = put_notes(page, story, mentions, facts, MOST, true);
     Ok(())
 }
@@ -143,12 +137,12 @@ fn tell_constraint(
 ) -> Result<bool, AllocError> {
     for leaf in &story.constraints(event.step)? {
         let mentions = story.mentions(leaf, Scope::Bound)?;
-        if reads_undefined(&mentions, facts) {
-            let (texts, place) = (story.texts(), story.duration_place(event.step));
-            begin_invalid(page, texts, place);
-            puts!(page; "the duration constraint of step ", event.step,
-                " reads a fluent without a value at ");
-            end_invalid(page, texts, place, event.tick);
+        if mentions.iter().any(|mention| is_undefined(mention, facts)) {
+            let (step, tick) = (event.step, story.texts().moment(event.tick));
+            let what = format_args!(
+                "the duration constraint of step {step} reads a fluent without a value at {tick}"
+            );
+            put_invalid(page, story.texts(), story.duration_place(step), what);
             put_reading(page, story, leaf, &mentions, facts)?;
             return Ok(true);
         }
@@ -167,22 +161,22 @@ pub(crate) fn tell_undefined(
         return Ok(());
     }
     let (texts, step) = (story.texts(), event.step);
+    let tick = texts.moment(event.tick);
     let is_whole = story.units(step).is_some();
     for doing in &story.doings(event)? {
         let reads = story.effect_reads(doing)?;
-        if reads_undefined(&reads, &facts) {
-            let place = story.step_place(step);
-            begin_invalid(page, texts, place);
-            puts!(page; "an effect of ", event, " reads a fluent without a value at ");
-            end_invalid(page, texts, place, event.tick);
+        if reads.iter().any(|mention| is_undefined(mention, &facts)) {
+            let what = format_args!(
+                "an effect of {event} reads a fluent without a value at {tick}"
+            );
+            put_invalid(page, texts, story.step_place(step), what);
             return put_reading(page, story, &doing.leaf, &reads, &facts);
         }
         if !is_whole && story.text(&doing.leaf)?.as_bytes().contains(&b'?') {
-            let place = story.duration_place(step);
-            begin_invalid(page, texts, place);
-            puts!(page; "an effect of ", event, " reads ?duration at ", texts.moment(event.tick),
-                ", and step ", step, " does not last whole units");
-            end_headline(page, texts.plan, place);
+            let what = format_args!(
+                "an effect of {event} reads ?duration at {tick}, and step {step} does not last whole units"
+            );
+            put_invalid(page, texts, story.duration_place(step), what);
             return put_reading(page, story, &doing.leaf, &[], &facts);
         }
     }

@@ -1,13 +1,13 @@
 //! The edges of a conflict.
 
-use crate::bounds::{put_own_bound, put_said};
-use crate::lines::put_place;
+use crate::bounds::{Said, put_own_bound};
 use crate::names::Named;
 use crate::picture::Picture;
 use crate::refusals::Reasons;
 use std::alloc::AllocError;
+use std::fmt;
 use tp_bounds::Bound;
-use tp_explain_text::{Page, puts};
+use tp_explain_text::{Page, put};
 use tp_script::Command;
 
 /// An edge of a conflict.
@@ -47,11 +47,6 @@ fn event_of(digits: &str) -> Option<u16> {
     digits.parse::<u16>().ok()
 }
 
-/// The identifier of a bound by the word of an edge.
-fn id_of(word: &str) -> Option<u32> {
-    word.strip_prefix('b')?.parse::<u32>().ok()
-}
-
 /// The edge of a word.
 pub(crate) fn edge_of(picture: &Picture, command: Command, word: &str) -> Option<Edge> {
     if word == "new" {
@@ -75,7 +70,7 @@ pub(crate) fn edge_of(picture: &Picture, command: Command, word: &str) -> Option
     if let Some(digits) = word.strip_prefix("end") {
         return Some(Edge::End(event_of(digits)?));
     }
-    let id = id_of(word)?;
+    let id = word.strip_prefix('b')?.parse::<u32>().ok()?;
     let _held = picture.bound(id)?;
     Some(Edge::Own(id))
 }
@@ -97,14 +92,15 @@ pub(crate) fn weight(picture: &Picture, edge: Edge) -> i64 {
 
 /// Whether a line of a conflict names a bound of a plan's own.
 pub fn names_own_bound(picture: &Picture, answer: &str) -> bool {
-    for word in answer.split(' ') {
-        if let Some(id) = id_of(word) {
-            if id < picture.own() {
-                return true;
-            }
+    answer.split(' ').any(|word| {
+        let Some(digits) = word.strip_prefix('b') else {
+            return false;
+        };
+        match digits.parse::<u32>() {
+            Ok(id) => id < picture.own(),
+            Err(_) => false,
         }
-    }
-    false
+    })
 }
 
 /// Puts what a bound of an identifier says, and why it is there where it is the plan's own.
@@ -122,7 +118,7 @@ pub(crate) fn put_held(
             put_own_bound(page, reasons.names, story, causes, held.bound)
         }
         _ => {
-            put_said(page, reasons.names, reasons.scale, held.bound);
+            page.put(Said(reasons.names, reasons.scale, held.bound));
             Ok(())
         }
     }
@@ -138,50 +134,41 @@ pub(crate) fn put_edge(
 ) -> Result<(), AllocError> {
     if let Edge::Own(id) = edge {
         if let Some((line, column)) = picture.bound(id).and_then(|held| held.place) {
-            put_place(page, line, column);
+            put!(page; "stdin:{line}:{column}: ");
         }
     }
-    page.put_all(&["note: ", word, ": "]);
+    put!(page; "note: {word}: ");
     let names = reasons.names;
     match edge {
         Edge::Own(id) => put_held(page, picture, reasons, id)?,
-        Edge::New(bound) => put_said(page, names, reasons.scale, bound),
+        Edge::New(bound) => page.put(Said(names, reasons.scale, bound)),
         Edge::Past(event, moment, _) => {
-            put_moment(page, reasons, event, " happened at ", moment);
+            put!(page; "{} happened at {}", Named(names, event), reasons.moment(moment));
         }
         Edge::Now(event, moment, lag) => {
-            put_moment(
-                page,
-                reasons,
-                event,
-                " has not happened, and comes at ",
-                moment,
-            );
-            put_or_later(page, lag);
+            let moment = reasons.moment(moment);
+            let behind = Lag(lag);
+            put!(page; "{} has not happened, and comes at {moment} or later{behind}",
+                Named(names, event));
         }
         Edge::End(event) => {
-            put_moment(
-                page,
-                reasons,
-                event,
-                " comes by the horizon, ",
-                picture.horizon(),
-            );
+            let horizon = reasons.moment(picture.horizon());
+            put!(page; "{} comes by the horizon, {horizon}", Named(names, event));
         }
     }
     page.put("\n");
     Ok(())
 }
 
-/// Puts what an event does at a moment.
-fn put_moment(page: &mut Page, reasons: &Reasons<'_, '_>, event: u16, does: &str, moment: u32) {
-    puts!(page; Named(reasons.names, event), does, reasons.moment(moment));
-}
+/// That a lag counts, if there is one.
+#[derive(Clone, Copy)]
+pub(crate) struct Lag(pub(crate) u32);
 
-/// Puts that a moment may be later, and the lag that counts, if there is one.
-pub(crate) fn put_or_later(page: &mut Page, lag: u32) {
-    page.put(" or later");
-    if lag != 0 {
-        puts!(page; ", now less its lag ", lag);
+impl fmt::Display for Lag {
+    fn fmt<W: fmt::Write>(&self, f: &mut fmt::Formatter<W>) -> fmt::Result {
+        if self.0 == 0 {
+            return Ok(());
+        }
+        write!(f, ", now less its lag {}", self.0)
     }
 }

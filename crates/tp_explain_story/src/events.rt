@@ -12,7 +12,7 @@ use std::fmt;
 use tp_explain_text::Tree;
 
 /// What an effect does.
-#[derive(Clone, Copy, PartialEq, Eq)]
+#[derive(Clone, Copy, Debug, PartialEq, Eq)]
 pub enum Verb {
     Adds,
     Deletes,
@@ -44,7 +44,7 @@ pub struct Doing<'a> {
 }
 
 /// An event of a step.
-#[derive(Clone, Copy)]
+#[derive(Clone, Copy, Debug, PartialEq, Eq)]
 pub struct Event {
     pub step: usize,
     pub moment: Moment,
@@ -54,12 +54,11 @@ pub struct Event {
 /// As `the start of step 3`.
 impl fmt::Display for Event {
     fn fmt<W: fmt::Write>(&self, f: &mut fmt::Formatter<W>) -> fmt::Result {
-        let part = match self.moment {
-            Moment::Start => "the start of ",
-            Moment::End => "the end of ",
-            Moment::All | Moment::Only => "",
-        };
-        write!(f, "{part}step {}", self.step)
+        match self.moment {
+            Moment::Start => write!(f, "the start of step {}", self.step),
+            Moment::End => write!(f, "the end of step {}", self.step),
+            Moment::All | Moment::Only => write!(f, "step {}", self.step),
+        }
     }
 }
 

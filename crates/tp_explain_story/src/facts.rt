@@ -9,7 +9,7 @@ use tp_explain_text::Tree;
 use tp_text::read_whole;
 
 /// Where a value is from.
-#[derive(Clone, Copy)]
+#[derive(Clone, Copy, Debug, PartialEq, Eq)]
 pub enum Origin {
     /// This place of `:init`.
     Init(usize),
@@ -18,7 +18,7 @@ pub enum Origin {
 }
 
 /// A value, 1 and 0 of an atom that holds and that does not, and where it is from.
-#[derive(Clone, Copy)]
+#[derive(Clone, Copy, Debug, PartialEq, Eq)]
 pub struct Fact {
     pub value: i64,
     pub origin: Origin,
@@ -41,11 +41,6 @@ impl Facts {
     /// What is known of a fluent, where something is.
     pub fn fluent(&self, name: &str) -> Option<Fact> {
         self.fluents.get(name).copied()
-    }
-
-    /// The value of a fluent, where it has one.
-    pub(crate) fn value(&self, name: &str) -> Option<i64> {
-        Some(self.fluent(name)?.value)
     }
 
     /// Sets an atom or a fluent.

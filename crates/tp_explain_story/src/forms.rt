@@ -3,7 +3,7 @@
 use tp_explain_text::Tree;
 
 /// What a list begins with.
-#[derive(Clone, Copy, PartialEq, Eq)]
+#[derive(Clone, Copy, Debug, PartialEq, Eq)]
 pub(crate) enum Head {
     And,
     Or,

@@ -1,11 +1,11 @@
 //! Why two events interfere.
 
 use crate::events::{Doing, Part, Verb};
-use crate::mentions::place_of;
+use crate::mentions::Mention;
 use std::alloc::{AllocError, Global};
 
 /// What an event does or wants that another one interferes with.
-#[derive(Clone, Copy)]
+#[derive(Clone, Copy, Debug, PartialEq, Eq)]
 pub enum Other {
     Wants,
     Reads,
@@ -25,6 +25,13 @@ pub struct Interference {
     pub other_place: usize,
 }
 
+/// Where a name is mentioned.
+fn mentioned(mentions: &[Mention], name: &str, is_fluent: bool) -> Option<usize> {
+    let found = mentions.iter().find(|mention| mention.is_fluent == is_fluent
+        && mention.name.as_str() == name);
+    Some(found?.place)
+}
+
 /// Whether two effects on the same atom or fluent interfere.
 fn disagree(one: Verb, other: Verb) -> bool {
     match one {
@@ -38,20 +45,17 @@ fn disagree(one: Verb, other: Verb) -> bool {
 fn against(doing: &Doing, event: &Part) -> Option<(Other, usize)> {
     let name = doing.name.as_str();
     let is_fluent = doing.verb.is_numeric();
-    if let Some(place) = place_of(&event.wants, name, is_fluent) {
+    if let Some(place) = mentioned(&event.wants, name, is_fluent) {
         return Some((Other::Wants, place));
     }
     if is_fluent {
-        if let Some(place) = place_of(&event.reads, name, true) {
+        if let Some(place) = mentioned(&event.reads, name, true) {
             return Some((Other::Reads, place));
         }
     }
-    for other in &event.doings {
-        if disagree(doing.verb, other.verb) && other.name.as_str() == name {
-            return Some((Other::Does(other.verb), other.leaf.place()));
-        }
-    }
-    None
+    let found = event.doings.iter().find(|other| disagree(doing.verb, other.verb)
+        && other.name.as_str() == name)?;
+    Some((Other::Does(found.verb), found.leaf.place()))
 }
 
 /// The first effect of one event that interferes with another event.

@@ -7,7 +7,7 @@ use std::alloc::AllocError;
 use tp_explain_text::Tree;
 
 /// When something is wanted or done.
-#[derive(Clone, Copy, PartialEq, Eq)]
+#[derive(Clone, Copy, Debug, PartialEq, Eq)]
 pub enum Moment {
     /// At the start of a step.
     Start,

@@ -1,7 +1,6 @@
 //! The lines of a run that go in, with their places.
 
 use std::alloc::{AllocError, Global};
-use tp_explain_text::{Page, puts};
 
 /// What was read of the input and not taken yet.
 #[derive(Drop)]
@@ -31,11 +30,6 @@ impl InputLine {
     pub fn column(&self) -> u64 {
         u64::try_from(self.from).unwrap_or(0).saturating_add(1)
     }
-}
-
-/// Puts a place of the input.
-pub(crate) fn put_place(page: &mut Page, number: u64, column: u64) {
-    puts!(page; "stdin:", number, ":", column, ": ");
 }
 
 /// Whether a byte stands between words.

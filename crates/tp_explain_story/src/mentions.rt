@@ -15,18 +15,8 @@ pub struct Mention {
     pub is_fluent: bool,
 }
 
-/// Where a name is mentioned.
-pub(crate) fn place_of(mentions: &[Mention], name: &str, is_fluent: bool) -> Option<usize> {
-    for mention in mentions {
-        if mention.is_fluent == is_fluent && mention.name.as_str() == name {
-            return Some(mention.place);
-        }
-    }
-    None
-}
-
 /// What of quantifiers counts as mentioned.
-#[derive(Clone, Copy, PartialEq, Eq)]
+#[derive(Clone, Copy, Debug, PartialEq, Eq)]
 pub enum Scope {
     /// What has no variable of a quantifier in it.
     Free,

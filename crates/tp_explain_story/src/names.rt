@@ -47,12 +47,12 @@ struct Part<'n>(Name<'n>);
 
 impl fmt::Display for Part<'_> {
     fn fmt<W: fmt::Write>(&self, f: &mut fmt::Formatter<W>) -> fmt::Result {
-        let part = match self.0.moment {
-            "start" => "the start of ",
-            "end" => "the end of ",
-            _ => "",
-        };
-        write!(f, "{part}{}", self.0)
+        let name = self.0;
+        match name.moment {
+            "start" => write!(f, "the start of {name}"),
+            "end" => write!(f, "the end of {name}"),
+            _ => write!(f, "{name}"),
+        }
     }
 }
 

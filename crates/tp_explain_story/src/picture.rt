@@ -132,13 +132,12 @@ impl Picture {
 
     /// How many events have not happened.
     pub fn left(&self) -> u64 {
-        let mut left = 0u64;
-        for point in &self.points {
-            if point.fixed.is_none() {
-                left = left.saturating_add(1);
-            }
-        }
-        left
+        let left = self
+            .points
+            .iter()
+            .filter(|point| point.fixed.is_none())
+            .count();
+        u64::try_from(left).unwrap_or(u64::MAX)
     }
 
     /// Sets the lag of an event.

@@ -2,14 +2,14 @@
 
 use crate::causes::Causes;
 use crate::commands::put_no_command;
-use crate::edges::{edge_of, put_edge, put_or_later, weight};
-use crate::lines::{InputLine, put_place};
+use crate::edges::{Lag, edge_of, put_edge, weight};
+use crate::lines::InputLine;
 use crate::names::{Names, Numbered};
 use crate::picture::Picture;
 use crate::story::Story;
 use std::alloc::AllocError;
 use tp_bounds::{Bound, Point};
-use tp_explain_text::{Moment, Page, Ticks, put_shown, puts};
+use tp_explain_text::{Moment, Page, Ticks, put, put_shown};
 use tp_script::{Command, read_command};
 
 /// What explanations of a run know of its plan: nothing of it where the network was given by hand.
@@ -37,8 +37,7 @@ const MOST_EDGES: usize = 6;
 fn put_head(page: &mut Page, line: &InputLine) {
     let words = line.words();
     let count = str::from_utf8(words).map_or(words.len(), |text| text.chars().count());
-    put_place(page, line.number, line.column());
-    page.put("refused: `");
+    put!(page; "stdin:{}:{}: refused: `", line.number, line.column());
     if count > WIDEST {
         put_shown(page, words, WIDEST.saturating_sub(3));
         page.put("...`: ");
@@ -50,11 +49,10 @@ fn put_head(page: &mut Page, line: &InputLine) {
 
 /// Puts that there is nothing of a number, of so many that there are.
 fn put_none(page: &mut Page, what: &str, number: u32, count: usize) {
-    puts!(page; "there is no ", what, " ", number);
     if count == 0 {
-        page.put(", and no other\n");
+        put!(page; "there is no {what} {number}, and no other\n");
     } else {
-        puts!(page; ", only 0 to ", count.saturating_sub(1), "\n");
+        put!(page; "there is no {what} {number}, only 0 to {}\n", count.saturating_sub(1));
     }
 }
 
@@ -71,16 +69,6 @@ fn missing(picture: &Picture, bound: Bound) -> u16 {
     }
 }
 
-/// Puts a moment between two texts.
-fn put_at(page: &mut Page, reasons: &Reasons<'_, '_>, before: &str, tick: u32, behind: &str) {
-    puts!(page; before, reasons.moment(tick), behind);
-}
-
-/// Puts a number between two texts.
-fn put_number(page: &mut Page, before: &str, number: i64, behind: &str) {
-    puts!(page; before, number, behind);
-}
-
 /// Puts what is so instead of what a command about an event asked for.
 fn put_event(
     page: &mut Page,
@@ -90,6 +78,10 @@ fn put_event(
     word: &str,
 ) {
     let named = Numbered(reasons.names, event, ",");
+    let (floor, now) = (
+        reasons.moment(picture.floor(event)),
+        reasons.moment(picture.now()),
+    );
     match word {
         "event" => put_none(
             page,
@@ -98,15 +90,11 @@ fn put_event(
             usize::from(picture.events()),
         ),
         "done" => {
-            puts!(page; named, " happened at ", reasons.moment(picture.fixed(event).unwrap_or(0)),
-                "\n");
+            let moment = reasons.moment(picture.fixed(event).unwrap_or(0));
+            put!(page; "{named} happened at {moment}\n");
         }
-        "back" => {
-            puts!(page; named, " comes at ", reasons.moment(picture.floor(event)));
-            put_or_later(page, picture.lag(event));
-            page.put("\n");
-        }
-        "moment" => put_at(page, reasons, "now is ", picture.now(), "\n"),
+        "back" => put!(page; "{named} comes at {floor} or later{}\n", Lag(picture.lag(event))),
+        "moment" => put!(page; "now is {now}\n"),
         _ => page.put("it changes nothing\n"),
     }
 }
@@ -129,22 +117,22 @@ fn put_instead(
             put_event(page, picture, reasons, event, word);
         }
         ("bound", Command::Withdraw(id)) if picture.bound(id.0).is_some() => {
-            put_number(page, "bound ", i64::from(id.0), " was withdrawn\n");
+            put!(page; "bound {} was withdrawn\n", id.0);
         }
         ("bound", Command::Withdraw(id)) => {
             put_none(page, "bound", id.0, picture.bounds().len());
         }
         ("weight", Command::Add(Bound { w, .. })) if w < 0 => {
-            put_number(page, "", w, " is past -2000000000, the least weight\n");
+            put!(page; "{w} is past -2000000000, the least weight\n");
         }
         ("weight", Command::Add(Bound { w, .. })) => {
-            put_number(page, "", w, " is past 2000000000, the greatest weight\n");
+            put!(page; "{w} is past 2000000000, the greatest weight\n");
         }
         ("back", Command::Advance(_)) => {
-            put_at(page, reasons, "now is ", picture.now(), " already\n");
+            put!(page; "now is {} already\n", reasons.moment(picture.now()));
         }
         ("moment", Command::Advance(_)) => {
-            put_at(page, reasons, "the horizon is ", picture.horizon(), "\n");
+            put!(page; "the horizon is {}\n", reasons.moment(picture.horizon()));
         }
         _ => page.put("it changes nothing\n"),
     }
@@ -185,9 +173,9 @@ fn put_edges(
         }
     }
     if shown < count {
-        puts!(page; "note: and ", count.saturating_sub(shown), " more:");
+        put!(page; "note: and {} more:", count.saturating_sub(shown));
         for word in answer.split(' ').skip(shown.saturating_add(2)) {
-            page.put_all(&[" ", word]);
+            put!(page; " {word}");
         }
         page.put("\n");
     }
@@ -219,8 +207,8 @@ pub fn tell_refusal(
         put_head(page, line);
         page.put("no schedule would remain\n");
         put_edges(page, picture, reasons, command, answer)?;
-        puts!(page; "note: together they ask for ", Ticks(reasons.scale, excess),
-            " more than there is\n");
+        let ticks = Ticks(reasons.scale, excess);
+        put!(page; "note: together they ask for {ticks} more than there is\n");
     } else if word != "memory" {
         put_head(page, line);
         put_instead(page, picture, reasons, command, word);

@@ -1,14 +1,13 @@
 //! What is to come, and why a run ends without a plan.
 
-use crate::bounds::put_id;
 use crate::edges::put_held;
-use crate::lines::{InputLine, put_place};
+use crate::lines::InputLine;
 use crate::names::Numbered;
 use crate::picture::Picture;
 use crate::refusals::Reasons;
 use crate::windows::Windows;
 use std::alloc::AllocError;
-use tp_explain_text::{Count, Moment, Page, Ticks, put_mark_of_line, puts, without_return};
+use tp_explain_text::{Count, Moment, Page, Ticks, put, put_mark_of_line, without_return};
 
 /// The most events that are told one by one.
 const MOST_EVENTS: usize = 6;
@@ -34,13 +33,18 @@ fn put_due(
     high: u64,
 ) {
     let (scale, now) = (reasons.scale, u64::from(picture.now()));
-    puts!(page; if low == high { "note: at " } else { "note: by " }, Moment(scale, high),
-        if high < now { ", " } else { ", in " }, Ticks(scale, high.abs_diff(now)),
-        if high < now { " ago: " } else { ": " }, Numbered(reasons.names, event, ""));
+    let distance = Ticks(scale, high.abs_diff(now));
+    put!(page; "note: {} {}, ", if low == high { "at" } else { "by" }, Moment(scale, high));
+    if high < now {
+        put!(page; "{distance} ago");
+    } else {
+        put!(page; "in {distance}");
+    }
+    put!(page; ": {}", Numbered(reasons.names, event, ""));
     if low < high && low == now {
         page.put(", from now on");
     } else if low < high {
-        puts!(page; ", from ", Moment(scale, low), " on");
+        put!(page; ", from {} on", Moment(scale, low));
     }
     page.put("\n");
 }
@@ -49,7 +53,7 @@ fn put_due(
 fn put_more(page: &mut Page, count: usize) {
     let more = count.saturating_sub(MOST_EVENTS);
     if more > 0 {
-        puts!(page; "note: and ", Count(more as u64, "more event", "more events"), "\n");
+        put!(page; "note: and {}\n", Count(more as u64, "more event", "more events"));
     }
 }
 
@@ -63,14 +67,14 @@ pub fn tell_report(
     let windows = Windows::of(picture)?;
     let mut left = events_left(picture, &windows)?;
     left.sort_unstable();
-    put_place(page, line.number, line.column());
-    puts!(page; "report: now is ", reasons.moment(picture.now()), ", and ");
+    let now = reasons.moment(picture.now());
+    put!(page; "stdin:{}:{}: report: now is {now}, and ", line.number, line.column());
     if left.is_empty() {
         page.put("no event is to come\n");
         return Ok(());
     }
-    puts!(page; Count(picture.left(), "event is", "events are"),
-        " to come, the next deadline first\n");
+    let count = Count(picture.left(), "event is", "events are");
+    put!(page; "{count} to come, the next deadline first\n");
     for (high, event) in left.iter().take(MOST_EVENTS) {
         put_due(page, picture, reasons, *event, windows.low(*event), *high);
     }
@@ -80,19 +84,8 @@ pub fn tell_report(
 
 /// Puts how many events have not happened.
 fn put_left(page: &mut Page, picture: &Picture) {
-    puts!(page; picture.left(), " of ",
-        Count(u64::from(picture.events()), "event has", "events have"), " not happened\n");
-}
-
-/// Puts when an event may happen.
-fn put_may(page: &mut Page, reasons: &Reasons<'_, '_>, event: u16, low: u64, high: u64) {
-    puts!(page; "note: ", Numbered(reasons.names, event, ","),
-        if low == high { " may happen at " } else { " may happen from " },
-        Moment(reasons.scale, low));
-    if low != high {
-        puts!(page; " to ", Moment(reasons.scale, high));
-    }
-    page.put("\n");
+    let all = Count(u64::from(picture.events()), "event has", "events have");
+    put!(page; "{} of {all} not happened\n", picture.left());
 }
 
 /// Puts that events have not happened, and when they may.
@@ -106,7 +99,15 @@ fn tell_left(
     page.put("stdin: no plan: ");
     put_left(page, picture);
     for (high, event) in left.iter().take(MOST_EVENTS) {
-        put_may(page, reasons, *event, windows.low(*event), *high);
+        let named = Numbered(reasons.names, *event, ",");
+        let low = windows.low(*event);
+        let first = Moment(reasons.scale, low);
+        if low == *high {
+            put!(page; "note: {named} may happen at {first}\n");
+        } else {
+            put!(page; "note: {named} may happen from {first} to {}\n",
+                Moment(reasons.scale, *high));
+        }
     }
     put_more(page, left.len());
     Ok(())
@@ -120,10 +121,10 @@ fn tell_withdrawn(
     line: &InputLine,
     id: u32,
 ) -> Result<(), AllocError> {
-    put_place(page, line.number, line.column());
-    puts!(page; "no plan: bound ", id, " of the plan was withdrawn\n");
+    let (number, column) = (line.number, line.column());
+    put!(page; "stdin:{number}:{column}: no plan: bound {id} of the plan was withdrawn\n");
     put_mark_of_line(page, without_return(line.bytes.as_slice()), line.from);
-    put_id(page, u64::from(id));
+    put!(page; "note: b{id}: ");
     put_held(page, picture, reasons, id)?;
     page.put("\nnote: an equal bound that is added does not bring the plan back\n");
     if picture.left() > 0 {

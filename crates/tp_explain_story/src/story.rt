@@ -100,18 +100,12 @@ impl<'a> Story<'a> {
 
     /// Where a step's action stands in the plan.
     pub(crate) fn step_place(&self, step: usize) -> usize {
-        match self.steps.get(step) {
-            Some(it) => it.name_place,
-            None => 0,
-        }
+        self.steps.get(step).map_or(0, |it| it.name_place)
     }
 
     /// Where a step's duration stands in the plan.
     pub(crate) fn duration_place(&self, step: usize) -> usize {
-        match self.steps.get(step) {
-            Some(it) => it.duration_place,
-            None => 0,
-        }
+        self.steps.get(step).map_or(0, |it| it.duration_place)
     }
 
     /// Where memory comes from.
@@ -363,7 +357,8 @@ fn changed(verb: Verb, old: Option<i64>, value: i64) -> Option<i64> {
 fn write_one(facts: &mut Facts, write: &Write) -> Result<(), AllocError> {
     let name = write.name.as_str();
     let is_fluent = write.verb.is_numeric();
-    let Some(value) = changed(write.verb, facts.value(name), write.value) else {
+    let old = facts.fluent(name).map(|fact| fact.value);
+    let Some(value) = changed(write.verb, old, write.value) else {
         return Ok(());
     };
     let origin = Origin::Event(write.event, write.verb);

@@ -1,9 +1,8 @@
 //! The texts of a plan, and how steps are named.
 
 use crate::story::Story;
-use crate::values::WIDEST;
 use std::fmt;
-use tp_explain_text::{At, Cut, Moment, Page, Source, Ticks, end_headline, puts};
+use tp_explain_text::{At, Moment, Page, Source, Ticks, put, put_mark};
 use tp_text::Scale;
 
 /// The files of a plan, and the ticks of a unit.
@@ -53,26 +52,17 @@ impl<'t> Texts<'t> {
     }
 }
 
-/// Begins the headline of what is wrong with a plan at a place of it.
-pub(crate) fn begin_invalid(page: &mut Page, texts: &Texts<'_>, place: usize) {
-    puts!(page; texts.in_plan(place), "invalid: ");
-}
-
-/// Ends such a headline by a moment, and marks the place.
-pub(crate) fn end_invalid(page: &mut Page, texts: &Texts<'_>, place: usize, tick: u32) {
-    page.put(texts.moment(tick));
-    end_headline(page, texts.plan, place);
-}
-
-/// Puts a note on a place of the domain, with a text that may be long.
-pub(crate) fn put_long_note(
+/// Puts what is wrong with a plan at a place of it.
+pub(crate) fn put_invalid<D: fmt::Display + Drop>(
     page: &mut Page,
     texts: &Texts<'_>,
     place: usize,
-    words: &str,
-    text: &str,
+    text: D,
 ) {
-    puts!(page; texts.in_domain(place), "note: ", words, " ", Cut(text, WIDEST), "\n");
+    put!(page; "{}invalid: ", texts.in_plan(place));
+    page.put(text);
+    page.put("\n");
+    put_mark(page, texts.plan, place);
 }
 
 /// The action of a step, as `(mend red)`.

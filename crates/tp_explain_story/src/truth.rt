@@ -59,7 +59,7 @@ pub(crate) fn value_of<'a>(
         }
         _ => {
             let name = text_of(tree, world, bindings)?;
-            Ok(facts.value(name.as_str()))
+            Ok(facts.fluent(name.as_str()).map(|fact| fact.value))
         }
     }
 }

@@ -3,11 +3,13 @@
 use crate::events::Verb;
 use crate::facts::{Fact, Facts, Origin};
 use crate::leaves::{Leaf, Moment};
-use crate::mentions::{Mention, Scope, place_of};
+use crate::mentions::{Mention, Scope};
 use crate::story::Story;
 use crate::texts::Deed;
+use crate::typed::Binding;
 use std::alloc::AllocError;
-use tp_explain_text::{At, Count, Cut, Page, puts};
+use std::fmt;
+use tp_explain_text::{At, Count, Cut, Page, put};
 
 /// The most characters of a condition that are shown.
 pub(crate) const WIDEST: usize = 100;
@@ -28,6 +30,12 @@ fn condition_text<'a>(
     format!(in story.alloc(); "({before} {text})")
 }
 
+/// Puts what a variable stands for, the first of them or one more.
+fn put_binding(page: &mut Page, is_first: bool, binding: &Binding<'_>) {
+    let before = if is_first { ", with " } else { ", " };
+    put!(page; "{before}{} = {}", binding.variable, binding.object);
+}
+
 /// Puts what a condition of a step wants that does not hold. `own` is how many of its bindings are
 /// those of the step.
 pub(crate) fn put_wanted<'a>(
@@ -39,50 +47,53 @@ pub(crate) fn put_wanted<'a>(
     facts: &Facts,
 ) -> Result<(), AllocError> {
     let text = condition_text(story, leaf, moment)?;
-    puts!(page; "note: it wants ", Cut(text.as_str(), WIDEST));
+    put!(page; "note: it wants {}", Cut(text.as_str(), WIDEST));
     if let Some((a, b)) = story.compared(leaf, facts)? {
-        puts!(page; ", which is ", a, " ", leaf.head(), " ", b);
+        put!(page; ", which is {a} {} {b}", leaf.head());
     }
     for (place, binding) in leaf.bindings.iter().skip(own).enumerate() {
-        let before = if place == 0 { ", with " } else { ", " };
-        puts!(page; before, binding.variable, " = ", binding.object);
+        put_binding(page, place == 0, binding);
     }
     page.put("\n");
     Ok(())
 }
 
-/// Puts an atom or a fluent, with its value.
-fn put_valued(page: &mut Page, mention: &Mention, value: i64) {
-    page.put_all(&["note: ", mention.name.as_str()]);
-    if mention.is_fluent {
-        puts!(page; " = ", value);
-    } else {
-        page.put(if value != 0 { " is true" } else { " is false" });
+/// An atom or a fluent, with its value.
+#[derive(Clone, Copy)]
+struct Valued<'m>(&'m Mention, i64);
+
+impl fmt::Display for Valued<'_> {
+    fn fmt<W: fmt::Write>(&self, f: &mut fmt::Formatter<W>) -> fmt::Result {
+        let Valued(mention, value) = *self;
+        let name = mention.name.as_str();
+        if mention.is_fluent {
+            write!(f, "{name} = {value}")
+        } else {
+            write!(f, "{name} is {}", value != 0)
+        }
     }
 }
 
 /// Puts the value of an atom or a fluent, and who wrote it last.
 fn put_fact(page: &mut Page, story: &Story<'_>, mention: &Mention, fact: Fact) {
     let texts = story.texts();
+    let valued = Valued(mention, fact.value);
     match fact.origin {
         Origin::Init(place) => {
-            page.put(At(texts.problem, place));
-            put_valued(page, mention, fact.value);
-            page.put(", as in :init\n");
+            put!(page; "{}note: {valued}, as in :init\n", At(texts.problem, place));
         }
         Origin::Event(number, verb) => {
             let Some(event) = story.events().get(number) else {
                 return;
             };
             let done = match verb {
-                Verb::Adds => ", last added by ",
-                Verb::Deletes => ", last deleted by ",
-                _ => ", last changed by ",
+                Verb::Adds => "added",
+                Verb::Deletes => "deleted",
+                _ => "changed",
             };
-            page.put(texts.in_plan(story.step_place(event.step)));
-            put_valued(page, mention, fact.value);
-            puts!(page; done, *event, " ", Deed(story, event.step), " at ",
-                texts.moment(event.tick), "\n");
+            put!(page; "{}note: {valued}, last {done} by {event} {} at {}\n",
+                texts.in_plan(story.step_place(event.step)), Deed(story, event.step),
+                texts.moment(event.tick));
         }
     }
 }
@@ -102,31 +113,22 @@ fn put_note(page: &mut Page, story: &Story<'_>, mention: &Mention, facts: &Facts
     match fact_of(facts, mention) {
         Some(fact) => put_fact(page, story, mention, fact),
         None if mention.is_fluent => {
-            page.put_all(&["note: ", name, " has no value, as :init gives none\n"]);
+            put!(page; "note: {name} has no value, as :init gives none\n");
         }
-        None => page.put_all(&["note: ", name, " is false, as :init does not list it\n"]),
+        None => put!(page; "note: {name} is false, as :init does not list it\n"),
     }
 }
 
 /// Whether a mention is that of one before it.
 fn is_again(mentions: &[Mention], at: usize, mention: &Mention) -> bool {
-    let before = mentions.get(..at).unwrap_or(&[]);
-    place_of(before, mention.name.as_str(), mention.is_fluent).is_some()
+    mentions.iter().take(at).any(|other| {
+        other.is_fluent == mention.is_fluent && other.name.as_str() == mention.name.as_str()
+    })
 }
 
 /// Whether a fluent that is mentioned has no value.
-fn is_undefined(mention: &Mention, facts: &Facts) -> bool {
+pub(crate) fn is_undefined(mention: &Mention, facts: &Facts) -> bool {
     mention.is_fluent && facts.fluent(mention.name.as_str()).is_none()
-}
-
-/// Whether one of some mentions is a fluent without a value.
-pub(crate) fn reads_undefined(mentions: &[Mention], facts: &Facts) -> bool {
-    for mention in mentions {
-        if is_undefined(mention, facts) {
-            return true;
-        }
-    }
-    false
 }
 
 /// Puts notes on mentions, or on those of them that are fluents without a value, each once, at most
@@ -164,9 +166,8 @@ pub(crate) fn put_values<'a>(
     let mentions = story.mentions(leaf, Scope::Free)?;
     let more = put_notes(page, story, &mentions, facts, most, false);
     if more > 0 {
-        puts!(page; "note: ",
-            Count( more, "more atom or fluent stands", "more atoms and fluents stand", ),
-            " in it\n");
+        put!(page; "note: {} in it\n",
+            Count(more, "more atom or fluent stands", "more atoms and fluents stand"));
     }
     Ok(())
 }

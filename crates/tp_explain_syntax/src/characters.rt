@@ -1,7 +1,7 @@
 //! Characters that may not stand in a text outside comments.
 
 use std::str::from_utf8;
-use tp_explain_text::{Page, Source, begin_error, end_headline, error_at, first_char, put};
+use tp_explain_text::{Page, Source, error_at, first_char, put};
 
 /// What a character is, and what to do about it, at the beginning of a file or elsewhere.
 fn words_of(found: char, first: bool) -> (&'static str, &'static str) {
@@ -28,10 +28,8 @@ pub fn put_bad_byte(page: &mut Page, source: Source<'_>, at: usize) {
     };
     let (name, help) = words_of(found, at == 0);
     let code = u32::from(found);
-    begin_error(page, source, at);
-    put!(page; "U+{code:04X}, {name}, stands outside a comment");
-    end_headline(page, source, at);
-    page.put_all(&["help: ", help, "\n"]);
+    error_at!(page, source, at; "U+{code:04X}, {name}, stands outside a comment");
+    put!(page; "help: {help}\n");
 }
 
 /// Puts what is wrong with a file that is not UTF-8.

@@ -1,11 +1,12 @@
 //! What a domain and a problem declare, and the variables in scope.
 
 use std::alloc::{AllocError, Global};
+use std::fmt;
 use tp_explain_text::{Role, Source, Step, Text, Tree, head_of, path_to};
 use tp_syntax_ast::Section;
 
 /// What a name may be declared as.
-#[derive(Clone, Copy, PartialEq, Eq)]
+#[derive(Clone, Copy, Debug, PartialEq, Eq)]
 pub enum Kind {
     Type,
     Predicate,
@@ -15,17 +16,17 @@ pub enum Kind {
     Action,
 }
 
-impl Kind {
-    /// What it is called.
-    pub fn word(self) -> &'static str {
-        match self {
+impl fmt::Display for Kind {
+    fn fmt<W: fmt::Write>(&self, f: &mut fmt::Formatter<W>) -> fmt::Result {
+        let word = match *self {
             Kind::Type => "type",
             Kind::Predicate => "predicate",
             Kind::Function => "function",
             Kind::Object => "object",
             Kind::Variable => "variable",
             Kind::Action => "action",
-        }
+        };
+        write!(f, "{word}")
     }
 }
 

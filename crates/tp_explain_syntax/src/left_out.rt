@@ -3,9 +3,7 @@
 use crate::declarations::Fault;
 use crate::expressions::begins_number;
 use std::alloc::AllocError;
-use tp_explain_text::{
-    Page, Step, Tree, begin_error, end_headline, error_at, head_of, put_error, put_tree,
-};
+use tp_explain_text::{Page, Step, Tree, error_at, head_of, put};
 
 /// What constructs are, and what to write for them.
 const WAYS: [(&str, &str, &str); 11] = [
@@ -71,7 +69,7 @@ const OTHER: (&str, &str, &str) = ("", "this is not supported", "write it withou
 
 /// Ends an explanation by what to write.
 fn put_way(page: &mut Page, way: &str) {
-    page.put_all(&["help: ", way, " (docs/WAYS-ROUND.md)\n"]);
+    put!(page; "help: {way} (docs/WAYS-ROUND.md)\n");
 }
 
 /// The type behind `-` that is not `number`.
@@ -98,7 +96,7 @@ fn place_in(step: &Step<'_>, at: usize, what: &str) -> usize {
 }
 
 /// What a word is that begins as a number and is not one, and what to do about it.
-fn number_form(word: &str) -> (&str, &str) {
+fn number_form(word: &str) -> (&'static str, &'static str) {
     let digits = word.strip_prefix('-').unwrap_or(word).as_bytes();
     let points = digits.iter().filter(|byte| **byte == b'.').count();
     let is_number = begins_number(word)
@@ -116,7 +114,7 @@ fn number_form(word: &str) -> (&str, &str) {
 fn put_number(page: &mut Page, fault: &Fault<'_>, step: &Step<'_>) {
     let word = step.items.get(step.child).map_or("", |tree| tree.word());
     let (form, way) = number_form(word);
-    put_error(page, fault.text.source, fault.at, &["`", word, "` ", form]);
+    error_at!(page, fault.text.source, fault.at; "`{word}` {form}");
     if !way.is_empty() {
         put_way(page, way);
     }
@@ -125,14 +123,12 @@ fn put_number(page: &mut Page, fault: &Fault<'_>, step: &Step<'_>) {
 /// Puts that a function has another type than `number`.
 fn put_object_fluent(page: &mut Page, fault: &Fault<'_>, step: &Step<'_>, at: usize) {
     let source = fault.text.source;
-    begin_error(page, source, at);
-    page.put("functions of type `");
     match other_type(step.items) {
-        Some(kind) => put_tree(page, kind),
-        None => page.put("object"),
+        Some(kind) => error_at!(page, source, at;
+            "functions of type `{kind}` are not supported, only of `number`"),
+        None => error_at!(page, source, at;
+            "functions of type `object` are not supported, only of `number`"),
     }
-    page.put("` are not supported, only of `number`");
-    end_headline(page, source, at);
     put_way(
         page,
         "write a predicate, and delete its old atom where a new one is added",
@@ -141,9 +137,9 @@ fn put_object_fluent(page: &mut Page, fault: &Fault<'_>, step: &Step<'_>, at: us
 
 /// Puts that a sum or product has too many operands.
 fn put_operands(page: &mut Page, fault: &Fault<'_>, step: &Step<'_>) {
-    let (sign, source) = (head_of(step.items), fault.text.source);
-    error_at!(page, source, step.start;
-        "`", sign, "` takes 2 operands, not ", step.items.len().saturating_sub(1));
+    let sign = head_of(step.items);
+    let count = step.items.len().saturating_sub(1);
+    error_at!(page, fault.text.source, step.start; "`{sign}` takes 2 operands, not {count}");
     put_way(
         page,
         if sign == "*" {
@@ -168,7 +164,7 @@ pub fn put_left_out(page: &mut Page, fault: &Fault<'_>, what: &str) -> Result<()
         _ => {
             let row = WAYS.iter().find(|row| row.0 == what);
             let (_, headline, way) = row.copied().unwrap_or(OTHER);
-            put_error(page, fault.text.source, at, &[headline]);
+            error_at!(page, fault.text.source, at; "{headline}");
             put_way(page, way);
         }
     }

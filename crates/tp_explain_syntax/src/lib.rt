@@ -44,5 +44,5 @@ pub use mismatches::{first_misfit, put_takes, put_types};
 pub use near::put_no_name;
 pub use shapes::put_shape;
 pub use twice::put_twice;
-pub use typing::{Types, fits, put_misfit};
+pub use typing::{Types, fits};
 pub use unknown::put_unknown;

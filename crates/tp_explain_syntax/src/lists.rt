@@ -2,7 +2,7 @@
 
 use crate::indentation::{Reading, Rules, Suspect, read};
 use std::alloc::AllocError;
-use tp_explain_text::{Count, Page, Source, error_at, put_error, put_note, puts};
+use tp_explain_text::{At, Count, Page, Source, error_at, put};
 
 /// The first list that should have ended before something behind it, if the text is one list with
 /// it closed.
@@ -10,25 +10,22 @@ fn suspect_of(reading: Reading) -> Option<Suspect> {
     if reading.is_one { reading.first } else { None }
 }
 
-const NOT_CLOSED: &str = "the list that begins here is not closed";
-
 /// Puts that a list is not closed, before its witness.
 fn put_suspect(page: &mut Page, source: Source<'_>, suspect: Suspect) {
-    put_error(page, source, suspect.list, &[NOT_CLOSED]);
-    let text = if suspect.is_field {
-        "a field begins here that cannot stand in it"
+    error_at!(page, source, suspect.list; "the list that begins here is not closed");
+    put!(page; "{}note: a {}\n", At(source, suspect.witness), if suspect.is_field {
+        "field begins here that cannot stand in it"
     } else {
-        "a list begins here that cannot stand in it, by its indentation"
-    };
-    put_note(page, source, suspect.witness, &[text]);
+        "list begins here that cannot stand in it, by its indentation"
+    });
     page.put("help: write a `)` before that\n");
 }
 
 /// Puts that the outermost list is not closed, and how many are not.
 fn put_outermost(page: &mut Page, source: Source<'_>, at: usize, open: usize) {
-    put_error(page, source, at, &[NOT_CLOSED]);
-    puts!(page; "note: ", Count(open as u64, "list is", "lists are"),
-        " open at the end of the file\nhelp: write `");
+    error_at!(page, source, at; "the list that begins here is not closed");
+    put!(page; "note: {} open at the end of the file\n", Count(open as u64, "list is", "lists are"));
+    page.put("help: write `");
     for _ in 0..open.min(64) {
         page.put(")");
     }
@@ -79,23 +76,23 @@ fn end_of_first(text: &[u8]) -> Option<usize> {
 /// Puts that something follows the list that is the file.
 pub fn put_extra(page: &mut Page, source: Source<'_>, at: usize) {
     let Some(end) = end_of_first(source.text) else {
-        put_error(page, source, at, &["the file is not one list"]);
+        error_at!(page, source, at; "the file is not one list");
         return;
     };
     error_at!(page, source, at; "something follows the list that is the file");
-    put_note(page, source, end, &["that list ends here"]);
+    put!(page; "{}note: that list ends here\n", At(source, end));
     page.put("help: a `)` too many stands there or before\n");
 }
 
 /// Puts that a list stands inside too many others.
 pub fn put_depth(page: &mut Page, source: Source<'_>, at: usize) {
-    put_error(page, source, at, &["a list stands inside 64 others"]);
+    error_at!(page, source, at; "a list stands inside 64 others");
     page.put("help: write `(and A B C)` for `(and A (and B C))`\n");
 }
 
 /// Puts that a text has nothing but blanks and comments.
 pub fn put_empty(page: &mut Page, name: &str, in_problem: bool) {
-    puts!(page; name, ": error: the file has nothing but blanks and comments\n");
+    put!(page; "{name}: error: the file has nothing but blanks and comments\n");
     page.put(if in_problem {
         "note: a problem is one list, `(define (problem NAME) (:domain NAME) ..)`\n"
     } else {
@@ -105,5 +102,5 @@ pub fn put_empty(page: &mut Page, name: &str, in_problem: bool) {
 
 /// Puts that a text is too long.
 pub fn put_text_too_long(page: &mut Page, name: &str, help: &str) {
-    puts!(page; name, ": error: the file has more than 1048576 bytes\nhelp: ", help, "\n");
+    put!(page; "{name}: error: the file has more than 1048576 bytes\nhelp: {help}\n");
 }

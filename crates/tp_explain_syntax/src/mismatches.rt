@@ -4,10 +4,10 @@ use crate::declarations::{
     Declared, Fault, Kind, World, declarations_of, find_named, innermost, section_of, typed_items,
     variables_at,
 };
-use crate::typing::{Misfit, Types, fits, put_misfit};
+use crate::typing::{Typed, Types, fits};
 use std::alloc::{AllocError, Global};
 use tp_explain_text::{
-    At, Count, Page, Role, Source, Step, Symbol, Tree, error_at, head_of, put_error, puts, rest_of,
+    At, Count, Page, Role, Source, Step, Symbol, Tree, error_at, head_of, put, rest_of,
 };
 use tp_syntax_ast::Section;
 
@@ -21,28 +21,25 @@ pub fn put_takes(
     count: usize,
 ) {
     if wanted == 0 {
-        error_at!(page, source, at; "`", name, "` takes no arguments, not ", count);
+        error_at!(page, source, at; "`{name}` takes no arguments, not {count}");
     } else {
-        let wanted = Count(wanted as u64, "argument", "arguments");
-        error_at!(page, source, at; "`", name, "` takes ", wanted, ", not ", count);
+        error_at!(page, source, at; "`{name}` takes {}, not {count}",
+            Count(wanted as u64, "argument", "arguments"));
     }
 }
 
-/// The first argument that does not fit its parameter. What is not known of an argument is not
-/// wrong.
+/// The number, from 1, of the first argument that does not fit its parameter, with the types of
+/// both. What is not known of an argument is not wrong.
 pub fn first_misfit<'t>(
     types: &Types<'t>,
     arguments: &[Option<Declared<'t>>],
     parameters: &[Declared<'t>],
-) -> Option<Misfit<'t>> {
+) -> Option<(usize, Typed<'t>, Typed<'t>)> {
     for (number, (argument, parameter)) in arguments.iter().zip(parameters).enumerate() {
         if let Some(argument) = argument {
             if !fits(types, argument.types, parameter.types) {
-                return Some(Misfit {
-                    number: number.saturating_add(1),
-                    argument: argument.types,
-                    parameter: parameter.types,
-                });
+                let number = number.saturating_add(1);
+                return Some((number, Typed(argument.types), Typed(parameter.types)));
             }
         }
     }
@@ -96,9 +93,10 @@ fn put_atom<'t>(
         let types = Types::new(alloc, &fault.world)?;
         let arguments = arguments_of(alloc, &fault.world, path, terms)?;
         let found = first_misfit(&types, arguments.as_slice(), parameters.as_slice());
-        if let Some(misfit) = found {
-            let at = step.items.get(misfit.number).map_or(0, |tree| tree.place());
-            put_misfit(page, source, at, name, &misfit);
+        if let Some((number, argument, parameter)) = found {
+            let at = step.items.get(number).map_or(0, |tree| tree.place());
+            error_at!(page, source, at;
+                "argument {number} of `{name}` is of type {argument}, expected {parameter}");
         }
     } else {
         put_takes(
@@ -111,8 +109,8 @@ fn put_atom<'t>(
         );
     }
     if let Some(head) = signature.items().first() {
-        puts!(page; At(fault.world.domain.source, head.place()),
-            "note: `", head.word(), "` is declared here\n");
+        put!(page; "{}note: `{head}` is declared here\n",
+            At(fault.world.domain.source, head.place()));
     }
     Ok(())
 }
@@ -127,13 +125,13 @@ fn is_round(types: &Types<'_>, name: &str) -> bool {
 
 /// Puts the types from one on to itself.
 fn put_round(page: &mut Page, types: &Types<'_>, name: &str) {
-    page.put_all(&["note: `", name, "`"]);
+    put!(page; "note: `{name}`");
     let mut current = name;
     for _ in 0..types.declared.len() {
         let Some(parent) = types.parent(current) else {
             break;
         };
-        page.put_all(&[" is below `", parent, "`"]);
+        put!(page; " is below `{parent}`");
         if parent.eq_ignore_ascii_case(name) {
             break;
         }
@@ -149,14 +147,14 @@ fn put_cycle(page: &mut Page, source: Source<'_>, types: &Types<'_>) {
         let is_object = item.name.eq_ignore_ascii_case("object");
         let parent = types.parent(item.name).unwrap_or("object");
         if is_object && !parent.eq_ignore_ascii_case("object") {
-            error_at!(page, source, item.at; "`object` cannot be below `", parent, "`");
+            error_at!(page, source, item.at; "`object` cannot be below `{parent}`");
             return;
         }
     }
     for item in types.declared.iter() {
         let name = item.name;
         if !name.eq_ignore_ascii_case("object") && is_round(types, name) {
-            error_at!(page, source, item.at; "the type `", name, "` is below itself");
+            error_at!(page, source, item.at; "the type `{name}` is below itself");
             put_round(page, types, name);
             return;
         }
@@ -175,8 +173,8 @@ pub fn put_types(page: &mut Page, fault: &Fault<'_>) -> Result<(), AllocError> {
         return Ok(());
     }
     if head_of(step.items) == "=" {
-        let text = "`=` compares two objects or two numbers, not one of each";
-        put_error(page, fault.text.source, step.start, &[text]);
+        error_at!(page, fault.text.source, step.start;
+            "`=` compares two objects or two numbers, not one of each");
         return Ok(());
     }
     put_atom(page, fault, path.as_slice(), step)

@@ -2,7 +2,7 @@
 
 use crate::declarations::{Declared, Kind, World, declarations_of, find_named};
 use std::alloc::{AllocError, Global};
-use tp_explain_text::{At, Nearest, Page, Source, error_at, puts};
+use tp_explain_text::{At, Nearest, Page, Source, error_at, put};
 
 /// The most names of a list.
 const MOST: usize = 8;
@@ -35,7 +35,7 @@ fn put_names(page: &mut Page, kind: Kind, names: &[Declared<'_>]) {
     if kind == Kind::Variable {
         page.put("note: variables in scope: ");
     } else {
-        page.put_all(&["note: declared ", kind.word(), "s: "]);
+        put!(page; "note: declared {kind}s: ");
     }
     let mut count = 0usize;
     for (number, name) in names.iter().enumerate() {
@@ -46,7 +46,7 @@ fn put_names(page: &mut Page, kind: Kind, names: &[Declared<'_>]) {
             page.put(" ..");
             break;
         }
-        page.put_all(&[if count == 0 { "`" } else { ", `" }, name.name, "`"]);
+        put!(page; "{}`{}`", if count == 0 { "" } else { ", " }, name.name);
         count = count.saturating_add(1);
     }
     page.put("\n");
@@ -63,8 +63,8 @@ fn put_near<'t>(
     lists: bool,
 ) {
     if let Some(name) = nearest_of(page, names, word) {
-        puts!(page; At(world.source_of(&name), name.at), "help: did you mean `", name.name,
-            "`, declared here?\n");
+        put!(page; "{}help: did you mean `{}`, declared here?\n",
+            At(world.source_of(&name), name.at), name.name);
     } else if kind == Kind::Type && Nearest::to(page.alloc(), word).finds("object") {
         page.put("help: did you mean `object`?\n");
     } else if lists {
@@ -106,18 +106,17 @@ pub fn put_no_name<'t>(
     if kind != Kind::Variable {
         if let Some((other, name)) = other_kind(page.alloc(), world, kind, word)? {
             let article = if other == Kind::Object { "an" } else { "a" };
-            error_at!(page, source, at;
-                "`", word, "` is no ", kind.word(), ", but ", article, " ", other.word());
-            puts!(page; At(world.source_of(&name), name.at), "note: it is declared here\n");
+            error_at!(page, source, at; "`{word}` is no {kind}, but {article} {other}");
+            put!(page; "{}note: it is declared here\n", At(world.source_of(&name), name.at));
             return Ok(());
         }
     }
-    let is_named = if kind == Kind::Variable {
-        " in scope is named `"
+    let scope = if kind == Kind::Variable {
+        " in scope"
     } else {
-        " is named `"
+        ""
     };
-    error_at!(page, source, at; "no ", kind.word(), is_named, word, "`");
+    error_at!(page, source, at; "no {kind}{scope} is named `{word}`");
     put_near(page, world, kind, names, word, lists);
     Ok(())
 }

@@ -1,8 +1,7 @@
 //! What may be wrong with a list, and how it is worded.
 
-use tp_explain_text::{
-    Nearest, Page, Source, Tree, begin_error, end_headline, put_brief, put_tree, put_words, puts,
-};
+use std::fmt;
+use tp_explain_text::{Brief, Nearest, Page, Source, Tree, Words, error_at, put};
 
 /// What was found where something else was wanted.
 #[derive(Clone, Copy)]
@@ -12,20 +11,13 @@ pub enum Found<'t> {
     Nothing,
 }
 
-/// Puts what was found.
-fn put_found(page: &mut Page, found: Found<'_>) {
-    match found {
-        Found::Tree(tree) => {
-            page.put("`");
-            put_tree(page, tree);
-            page.put("`");
+impl fmt::Display for Found<'_> {
+    fn fmt<W: fmt::Write>(&self, f: &mut fmt::Formatter<W>) -> fmt::Result {
+        match *self {
+            Found::Tree(tree) => write!(f, "`{tree}`"),
+            Found::List(items) => write!(f, "`{}`", Brief(items)),
+            Found::Nothing => write!(f, "nothing"),
         }
-        Found::List(items) => {
-            page.put("`");
-            put_brief(page, items);
-            page.put("`");
-        }
-        Found::Nothing => page.put("nothing"),
     }
 }
 
@@ -33,9 +25,9 @@ fn put_found(page: &mut Page, found: Found<'_>) {
 #[derive(Clone, Copy)]
 pub enum What<'t> {
     /// A form was wanted, and something else was found.
-    Expected(&'t str, Found<'t>),
+    Expected(&'static str, Found<'t>),
     /// The same, and what the form has to stand behind.
-    ExpectedBehind(&'t str, &'t [Tree], Found<'t>),
+    ExpectedBehind(&'static str, &'t [Tree], Found<'t>),
     NoSection(&'t str),
     /// No field of an action, or of a durative one.
     NoField(&'t str, bool),
@@ -44,40 +36,35 @@ pub enum What<'t> {
     NoValue(&'t str),
     NoGoal,
     /// An operator takes so many of something, and has another number of them.
-    Takes(&'t str, &'t str, usize),
+    Takes(&'t str, &'static str, usize),
     /// `?duration` as a variable that is declared.
     Duration,
 }
 
-/// Puts what is wrong.
-fn put_what(page: &mut Page, what: What<'_>) {
-    match what {
-        What::Expected(form, found) => {
-            page.put_all(&["expected ", form, ", found "]);
-            put_found(page, found);
+impl fmt::Display for What<'_> {
+    fn fmt<W: fmt::Write>(&self, f: &mut fmt::Formatter<W>) -> fmt::Result {
+        match *self {
+            What::Expected(form, found) => write!(f, "expected {form}, found {found}"),
+            What::ExpectedBehind(form, before, found) => {
+                write!(
+                    f,
+                    "expected {form} behind `{}`, found {found}",
+                    Words(before)
+                )
+            }
+            What::NoSection(word) => write!(f, "no section is named `{word}`"),
+            What::NoField(word, true) => write!(f, "`{word}` is no field of a durative action"),
+            What::NoField(word, false) => write!(f, "`{word}` is no field of an action"),
+            What::NoName(true) => write!(f, "the durative action has no name"),
+            What::NoName(false) => write!(f, "the action has no name"),
+            What::NoDuration(name) => write!(f, "the durative action `{name}` has no `:duration`"),
+            What::NoValue(word) => write!(f, "`{word}` has no value"),
+            What::NoGoal => write!(f, "the problem has no `(:goal ..)`"),
+            What::Takes(operator, wanted, count) => {
+                write!(f, "`{operator}` takes {wanted}, not {count}")
+            }
+            What::Duration => write!(f, "`?duration` is no variable that can be declared"),
         }
-        What::ExpectedBehind(form, before, found) => {
-            page.put_all(&["expected ", form, " behind `"]);
-            put_words(page, before);
-            page.put("`, found ");
-            put_found(page, found);
-        }
-        What::NoSection(word) => page.put_all(&["no section is named `", word, "`"]),
-        What::NoField(word, true) => {
-            page.put_all(&["`", word, "` is no field of a durative action"]);
-        }
-        What::NoField(word, false) => page.put_all(&["`", word, "` is no field of an action"]),
-        What::NoName(true) => page.put("the durative action has no name"),
-        What::NoName(false) => page.put("the action has no name"),
-        What::NoDuration(name) => {
-            page.put_all(&["the durative action `", name, "` has no `:duration`"]);
-        }
-        What::NoValue(word) => page.put_all(&["`", word, "` has no value"]),
-        What::NoGoal => page.put("the problem has no `(:goal ..)`"),
-        What::Takes(operator, wanted, count) => {
-            puts!(page; "`", operator, "` takes ", wanted, ", not ", count);
-        }
-        What::Duration => page.put("`?duration` is no variable that can be declared"),
     }
 }
 
@@ -90,7 +77,7 @@ pub enum Help<'t> {
     /// A word in parentheses.
     InList(&'t str),
     /// A word behind a sign.
-    Behind(&'t str, &'t str),
+    Behind(&'static str, &'t str),
     /// A list at a time: of a condition or of an effect.
     When(&'t [Tree], bool),
     /// The domain of a problem.
@@ -159,7 +146,7 @@ fn put_near(page: &mut Page, word: &str, names: &'static [&'static str]) {
         }
     }
     if let Some(name) = found {
-        page.put_all(&["help: did you mean `", name, "`?\n"]);
+        put!(page; "help: did you mean `{name}`?\n");
     }
 }
 
@@ -168,23 +155,22 @@ fn put_help(page: &mut Page, help: Help<'_>) {
     match help {
         Help::Nothing => {}
         Help::Near(word, names) => put_near(page, word, names),
-        Help::When(items, effect) => {
-            page.put("help: say when: `(at start ");
-            put_brief(page, items);
-            puts!(page; if effect { ")`, or the other\n" } else { ")`, or one of the others\n" });
+        Help::When(items, true) => {
+            put!(page; "help: say when: `(at start {})`, or the other\n", Brief(items));
         }
-        Help::Text(text) => page.put_all(&["help: ", text, "\n"]),
-        Help::InList(word) => page.put_all(&["help: write `(", word, ")`\n"]),
-        Help::Behind(sign, word) => page.put_all(&["help: write `", sign, word, "`\n"]),
-        Help::OfDomain(name) => page.put_all(&["help: write `(:domain ", name, ")`\n"]),
+        Help::When(items, false) => {
+            put!(page; "help: say when: `(at start {})`, or one of the others\n", Brief(items));
+        }
+        Help::Text(text) => put!(page; "help: {text}\n"),
+        Help::InList(word) => put!(page; "help: write `({word})`\n"),
+        Help::Behind(sign, word) => put!(page; "help: write `{sign}{word}`\n"),
+        Help::OfDomain(name) => put!(page; "help: write `(:domain {name})`\n"),
     }
 }
 
 /// Puts what is wrong at a place of a text.
 pub fn put_reason(page: &mut Page, source: Source<'_>, reason: &Reason<'_>) {
-    begin_error(page, source, reason.at);
-    put_what(page, reason.what);
-    end_headline(page, source, reason.at);
+    error_at!(page, source, reason.at; "{}", reason.what);
     if let What::NoField(_, lasts) = reason.what {
         page.put("note: its fields are ");
         page.put(if lasts {
@@ -194,7 +180,7 @@ pub fn put_reason(page: &mut Page, source: Source<'_>, reason: &Reason<'_>) {
         });
     }
     if !reason.note.is_empty() {
-        page.put_all(&["note: ", reason.note, "\n"]);
+        put!(page; "note: {}\n", reason.note);
     }
     put_help(page, reason.help);
 }

@@ -4,20 +4,19 @@ use crate::declarations::{
     Declared, Fault, Kind, declarations_of, find_named, typed_items, word_at,
 };
 use std::alloc::{AllocError, Global};
-use tp_explain_text::{
-    Page, Role, Source, Step, Symbol, Tree, begin_error, end_headline, error_at, put_note,
-};
+use std::fmt;
+use tp_explain_text::{At, Lower, Page, Role, Source, Step, Symbol, Tree, error_at, head_of, put};
 use tp_syntax_ast::{ProblemSection, Section};
 
 /// Puts where the first one stands.
 fn put_first(page: &mut Page, source: Source<'_>, at: usize) {
-    put_note(page, source, at, &["the first is here"]);
+    put!(page; "{}note: the first is here\n", At(source, at));
 }
 
 /// Puts that a section stands twice.
 fn put_section(page: &mut Page, fault: &Fault<'_>, outer: &Step<'_>, word: &str) {
     let source = fault.text.source;
-    error_at!(page, source, fault.at; "the section `", word, "` stands twice");
+    error_at!(page, source, fault.at; "the section `{word}` stands twice");
     let first = outer
         .items
         .iter()
@@ -30,7 +29,7 @@ fn put_section(page: &mut Page, fault: &Fault<'_>, outer: &Step<'_>, word: &str)
 /// Puts that a field of an action stands twice.
 fn put_field(page: &mut Page, fault: &Fault<'_>, step: &Step<'_>, word: &str) {
     let (source, name) = (fault.text.source, word_at(step.items, 1));
-    error_at!(page, source, fault.at; "the field `", word, "` of `", name, "` stands twice");
+    error_at!(page, source, fault.at; "the field `{word}` of `{name}` stands twice");
     if let Some(first) = step.items.iter().find(|tree| tree.is(word)) {
         put_first(page, source, first.place());
     }
@@ -45,8 +44,7 @@ fn put_name<'t>(
 ) -> Result<(), AllocError> {
     let kind = kind_in(step);
     let names = names_among(page.alloc(), fault, kind, step)?;
-    let source = fault.text.source;
-    error_at!(page, source, fault.at; "the ", kind.word(), " `", word, "` is declared twice");
+    error_at!(page, fault.text.source, fault.at; "the {kind} `{word}` is declared twice");
     if let Some(first) = find_named(names.as_slice(), word) {
         put_first(page, fault.world.source_of(&first), first.at);
     }
@@ -155,15 +153,23 @@ fn clashes(before: &Entry<'_>, entry: &Entry<'_>) -> bool {
     same_words(before.atom, entry.atom) && differ != valued
 }
 
-/// Puts an atom or a fluent in small letters.
-fn put_atom(page: &mut Page, atom: &[Tree]) {
-    let mut before = "(";
-    for tree in atom {
-        page.put(before);
-        page.put_lower(tree.word());
-        before = " ";
+/// An atom or a fluent in small letters.
+#[derive(Clone, Copy)]
+struct Atom<'t>(&'t [Tree]);
+
+impl fmt::Display for Atom<'_> {
+    fn fmt<W: fmt::Write>(&self, f: &mut fmt::Formatter<W>) -> fmt::Result {
+        write!(f, "(")?;
+        for (number, tree) in self.0.iter().enumerate() {
+            write!(
+                f,
+                "{}{}",
+                if number == 0 { "" } else { " " },
+                Lower(tree.word())
+            )?;
+        }
+        write!(f, ")")
     }
-    page.put(if atom.is_empty() { "()" } else { ")" });
 }
 
 /// Puts that an entry of `:init` clashes with one before it.
@@ -172,16 +178,12 @@ fn put_entry(page: &mut Page, source: Source<'_>, section: &Step<'_>) {
         return;
     };
     let entry = entry_of(tree);
-    let (gives, again) = if entry.said == Said::Value {
-        ("`:init` gives ", " a second value")
+    let atom = Atom(entry.atom);
+    if entry.said == Said::Value {
+        error_at!(page, source, entry.at; "`:init` gives {atom} a second value");
     } else {
-        ("`:init` has ", " both with and without `not`")
-    };
-    begin_error(page, source, entry.at);
-    page.put(gives);
-    put_atom(page, entry.atom);
-    page.put(again);
-    end_headline(page, source, entry.at);
+        error_at!(page, source, entry.at; "`:init` has {atom} both with and without `not`");
+    }
     for tree in section.items.iter().take(section.child).skip(1) {
         let before = entry_of(tree);
         if clashes(&before, &entry) {

@@ -2,15 +2,8 @@
 
 use crate::declarations::{Declared, Kind, World, declarations_of, find_named};
 use std::alloc::{AllocError, Global};
-use tp_explain_text::{Page, Source, Tree, begin_error, end_headline, put_words, puts};
-
-/// An argument that does not fit its parameter: its number, from 1, and the types of both.
-#[derive(Clone, Copy)]
-pub struct Misfit<'t> {
-    pub number: usize,
-    pub argument: Option<&'t Tree>,
-    pub parameter: Option<&'t Tree>,
-}
+use std::fmt;
+use tp_explain_text::{Tree, Words};
 
 /// The types that a domain declares.
 #[derive(Drop)]
@@ -97,24 +90,15 @@ pub fn fits<'t>(
     true
 }
 
-/// Puts types as they are written behind `-`, between backticks.
-fn put_typed(page: &mut Page, types: Option<&Tree>) {
-    match types {
-        Some(tree @ Tree::List { .. }) => {
-            page.put("`");
-            put_words(page, tree.items());
-            page.put("`");
-        }
-        _ => page.put_all(&["`", first_type(types), "`"]),
-    }
-}
+/// Types as they are written behind `-`, between backticks.
+#[derive(Clone, Copy)]
+pub struct Typed<'t>(pub Option<&'t Tree>);
 
-/// Puts that an argument does not fit its parameter.
-pub fn put_misfit(page: &mut Page, source: Source<'_>, at: usize, name: &str, misfit: &Misfit<'_>) {
-    begin_error(page, source, at);
-    puts!(page; "argument ", misfit.number, " of `", name, "` is of type ");
-    put_typed(page, misfit.argument);
-    page.put(", expected ");
-    put_typed(page, misfit.parameter);
-    end_headline(page, source, at);
+impl fmt::Display for Typed<'_> {
+    fn fmt<W: fmt::Write>(&self, f: &mut fmt::Formatter<W>) -> fmt::Result {
+        match self.0 {
+            Some(tree @ Tree::List { .. }) => write!(f, "`{}`", Words(tree.items())),
+            types => write!(f, "`{}`", first_type(types)),
+        }
+    }
 }

@@ -5,7 +5,7 @@ use crate::declarations::{
 };
 use crate::near::put_no_name;
 use std::alloc::{AllocError, Global};
-use tp_explain_text::{Page, Role, Step, Symbol, put_error};
+use tp_explain_text::{Page, Role, Step, Symbol, error_at};
 
 /// What a name that a list begins with should be.
 fn head_kind(role: Role) -> Kind {
@@ -48,14 +48,8 @@ pub fn put_unknown(page: &mut Page, fault: &Fault<'_>) -> Result<(), AllocError>
     let word = word_at(step.items, step.child);
     if step.role == Role::OfDomain {
         let own = word_at(items_at(fault.world.domain.tree.items(), 1), 1);
-        let texts = [
-            "the problem is one of the domain `",
-            word,
-            "`, not of `",
-            own,
-            "`",
-        ];
-        put_error(page, fault.text.source, fault.at, &texts);
+        error_at!(page, fault.text.source, fault.at;
+            "the problem is one of the domain `{word}`, not of `{own}`");
         return Ok(());
     }
     let kind = kind_of(step, word);

@@ -30,10 +30,8 @@ pub use chars::first_char;
 pub use marks::{put_mark, put_mark_of_line, put_shown};
 pub use moments::{Moment, Ticks, Units};
 pub use nearest::Nearest;
-pub use page::{Count, Cut, Page};
+pub use page::{Count, Cut, Lower, Page};
 pub use paths::{Step, path_to};
-pub use places::{
-    At, Source, begin_error, end_headline, put_error, put_note, put_number_error, without_return,
-};
+pub use places::{At, Source, put_error, without_return};
 pub use roles::{Role, Symbol, Value};
-pub use trees::{Text, Tree, head_of, put_brief, put_tree, put_words, read_tree, rest_of};
+pub use trees::{Brief, Text, Tree, Words, head_of, read_tree, rest_of};

@@ -34,20 +34,6 @@ impl Page {
         }
     }
 
-    /// Puts texts, one behind the other.
-    pub fn put_all(&mut self, texts: &[&str]) {
-        for text in texts {
-            self.put_bytes(text.as_bytes());
-        }
-    }
-
-    /// Puts a text with its capital letters small.
-    pub fn put_lower(&mut self, text: &str) {
-        for byte in text.as_bytes() {
-            self.put_bytes(&[byte.to_ascii_lowercase()]);
-        }
-    }
-
     /// Puts what something prints.
     pub fn put<D: fmt::Display + Drop>(&mut self, text: D) {
         let _ = fmt::Write::write(self, text);
@@ -74,14 +60,6 @@ impl fmt::Write for Page {
     }
 }
 
-/// Puts on a page what pieces print, one behind the other.
-#[macro_export]
-macro_rules! puts {
-    ($page:expr; $($piece:expr),+) => {{
-        $($page.put($piece);)+
-    }};
-}
-
 /// Puts a format on a page.
 #[macro_export]
 macro_rules! put {
@@ -104,6 +82,19 @@ impl fmt::Display for Cut<'_> {
             write!(f, "{letter}")?;
         }
         write!(f, "...")
+    }
+}
+
+/// A text whose capital letters are small.
+#[derive(Clone, Copy)]
+pub struct Lower<'t>(pub &'t str);
+
+impl fmt::Display for Lower<'_> {
+    fn fmt<W: fmt::Write>(&self, f: &mut fmt::Formatter<W>) -> fmt::Result {
+        for letter in self.0.chars() {
+            write!(f, "{}", letter.to_ascii_lowercase())?;
+        }
+        Ok(())
     }
 }
 

@@ -62,55 +62,19 @@ impl fmt::Display for At<'_> {
     }
 }
 
-/// Begins the headline of an error at a place.
-pub fn begin_error(page: &mut Page, source: Source<'_>, at: usize) {
+/// Puts the headline of an error at a place, and marks the place.
+pub fn put_error<D: fmt::Display + Drop>(page: &mut Page, source: Source<'_>, at: usize, text: D) {
     page.put(At(source, at));
     page.put("error: ");
-}
-
-/// Ends a headline, and marks its place.
-pub fn end_headline(page: &mut Page, source: Source<'_>, at: usize) {
+    page.put(text);
     page.put("\n");
     put_mark(page, source, at);
 }
 
-/// Puts the headline of an error at a place, and marks the place.
-pub fn put_error(page: &mut Page, source: Source<'_>, at: usize, texts: &[&str]) {
-    begin_error(page, source, at);
-    page.put_all(texts);
-    end_headline(page, source, at);
-}
-
-/// The same with a number between two texts.
-pub fn put_number_error(
-    page: &mut Page,
-    source: Source<'_>,
-    at: usize,
-    before: &str,
-    number: u64,
-    behind: &str,
-) {
-    begin_error(page, source, at);
-    page.put(before);
-    page.put(number);
-    page.put(behind);
-    end_headline(page, source, at);
-}
-
-/// Puts a note on a place.
-pub fn put_note(page: &mut Page, source: Source<'_>, at: usize, texts: &[&str]) {
-    page.put(At(source, at));
-    page.put("note: ");
-    page.put_all(texts);
-    page.put("\n");
-}
-
-/// Puts the headline of an error at a place, by pieces, and marks the place.
+/// Puts the headline of an error at a place, a format, and marks the place.
 #[macro_export]
 macro_rules! error_at {
-    ($page:expr, $source:expr, $at:expr; $($piece:expr),+) => {{
-        $crate::begin_error($page, $source, $at);
-        $($page.put($piece);)+
-        $crate::end_headline($page, $source, $at);
-    }};
+    ($page:expr, $source:expr, $at:expr; $($format:tt)*) => {
+        $crate::put_error($page, $source, $at, format_args!($($format)*))
+    };
 }

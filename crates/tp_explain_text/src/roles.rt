@@ -7,14 +7,14 @@ use tp_syntax_ast::{
 };
 
 /// What a list with a name speaks of.
-#[derive(Clone, Copy, PartialEq, Eq)]
+#[derive(Clone, Copy, Debug, PartialEq, Eq)]
 pub enum Symbol {
     Predicate,
     Function,
 }
 
 /// Where an expression stands.
-#[derive(Clone, Copy, PartialEq, Eq)]
+#[derive(Clone, Copy, Debug, PartialEq, Eq)]
 pub enum Value {
     Condition,
     Effect,
@@ -22,7 +22,7 @@ pub enum Value {
 }
 
 /// What a list is in the grammar.
-#[derive(Clone, Copy, PartialEq, Eq)]
+#[derive(Clone, Copy, Debug, PartialEq, Eq)]
 pub enum Role {
     Domain,
     Problem,

@@ -1,8 +1,8 @@
 //! Parse trees that own their words: what is lent of one has the tree's own lifetime alone.
 
-use crate::page::Page;
 use crate::places::Source;
 use std::alloc::{AllocError, Global};
+use std::fmt;
 use tp_text::{Span, TextFault};
 
 /// A word or a list, with its place in the text.
@@ -109,32 +109,41 @@ pub fn rest_of<'t>(items: &'t [Tree]) -> &'t [Tree] {
     items.get(1..).unwrap_or(&[])
 }
 
-/// Puts a list by its head: `(HEAD ..)`, `(HEAD)`, `(..)` or `()`.
-pub fn put_brief(page: &mut Page, items: &[Tree]) {
-    let behind = match items {
-        [] | [Tree::Word { .. }] => ")",
-        [Tree::Word { .. }, ..] => " ..)",
-        _ => "..)",
-    };
-    page.put_all(&["(", head_of(items), behind]);
-}
+/// A list by its head: `(HEAD ..)`, `(HEAD)`, `(..)` or `()`.
+#[derive(Clone, Copy)]
+pub struct Brief<'t>(pub &'t [Tree]);
 
-/// Puts a word, or a list by its head.
-pub fn put_tree(page: &mut Page, tree: &Tree) {
-    if tree.is_list() {
-        put_brief(page, tree.items());
-    } else {
-        page.put(tree.word());
+impl fmt::Display for Brief<'_> {
+    fn fmt<W: fmt::Write>(&self, f: &mut fmt::Formatter<W>) -> fmt::Result {
+        match self.0 {
+            [] => write!(f, "()"),
+            [head @ Tree::Word { .. }] => write!(f, "({})", head.word()),
+            [head @ Tree::Word { .. }, ..] => write!(f, "({} ..)", head.word()),
+            _ => write!(f, "(..)"),
+        }
     }
 }
 
-/// Puts words and lists by their heads, in parentheses.
-pub fn put_words(page: &mut Page, trees: &[Tree]) {
-    let mut before = "(";
-    for tree in trees {
-        page.put(before);
-        put_tree(page, tree);
-        before = " ";
+/// A word, or a list by its head.
+impl fmt::Display for Tree {
+    fn fmt<W: fmt::Write>(&self, f: &mut fmt::Formatter<W>) -> fmt::Result {
+        match self {
+            Tree::Word { text, .. } => write!(f, "{text}"),
+            Tree::List { items, .. } => write!(f, "{}", Brief(items.as_slice())),
+        }
     }
-    page.put(if trees.is_empty() { "()" } else { ")" });
+}
+
+/// Words and lists by their heads, in parentheses.
+#[derive(Clone, Copy)]
+pub struct Words<'t>(pub &'t [Tree]);
+
+impl fmt::Display for Words<'_> {
+    fn fmt<W: fmt::Write>(&self, f: &mut fmt::Formatter<W>) -> fmt::Result {
+        write!(f, "(")?;
+        for (number, tree) in self.0.iter().enumerate() {
+            write!(f, "{}{tree}", if number == 0 { "" } else { " " })?;
+        }
+        write!(f, ")")
+    }
 }
